@@ -1,0 +1,3 @@
+pub mod Nonzero
+pub mod Same
+pub mod RoundTrip
