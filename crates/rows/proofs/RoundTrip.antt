@@ -1,5 +1,5 @@
 -- What is written reads back the same, and what is read was written so. Assumes nothing.
-use mathlib.Core.Path.{_≡_, refl, sym, ap, _∙_}
+use mathlib.Core.Path.{_≡_, refl, sym, ap, _∙_, subst}
 use mathlib.Core.Bool.{Bool, true, false, _&&_}
 use mathlib.Core.List.{List, [], _∷_}
 use Prim.Native.Nat.{ℕ, _+_, _*_, _/_, _%_, _^_, _<_, _≤_}
@@ -80,9 +80,10 @@ reads-one bs (Tuning t) (Pass q) h k = absurd (omega arith)
 reads-one bs (Tuning t) (Tuning u) h k = ap Tuning (same-tuning t u (cc) (cc) (cc))
 
 -- what reading a row's bytes answers is that row
-pub read-back : (row : Row) (r : Result Row Fault) → RowRead (written row) r → r ≡ Ok row
-read-back row (Ok other) (none, is) = ap Ok (reads-one (written row) other row is (read-written row .1))
-read-back row (Err fault) (place, wrong, told) =
+pub read-forth : (bs : List ℕ) (row : Row) (r : Result Row Fault) → written row ≡ bs → RowRead bs r → r ≡ Ok row
+read-forth bs row (Ok other) e (none, is) =
+    ap Ok (reads-one bs other row is (subst (λ (xs : List ℕ). RowIs xs row) e (read-written row .1)))
+read-forth bs row (Err fault) e (place, wrong, told) =
     let none = read-written row .0 in
     let z : _≡_ {A = ℕ} 0 1 = cc in
     absurd (omega arith)

@@ -1,5 +1,6 @@
 ghost use mathlib.Core.Path.{_≡_};
 ghost use Rattle.std.specs.Results.{Cases};
+ghost use Rattle.rows.specs.declared.row.Row.{Row};
 ghost use Rattle.std.specs.declared.result.Result.the-variants.{Ok, Err};
 ghost use Rattle.std.specs.Vec.{made};
 ghost use Rattle.rows.specs.Rows.{Held, FieldsRead, RowRead, written};
@@ -43,6 +44,7 @@ impl Row {
     pub fn from_bytes(bytes: &[u8]) -> Result<Row, Fault>
         ensures exact { λ r. ⌜ RowRead (now (bytes .entry)) r ⌝ }
         ensures back { λ r. ⌜ made r (λ row. written row ≡ now (bytes .entry)) ⌝ }
+        ensures forth { λ r. ⌜ ((row : Row) → written row ≡ now (bytes .entry) → r ≡ Ok row) ⌝ }
     {
         by_kind(sixteen(bytes)?)
     }
