@@ -23,7 +23,7 @@ use Rattle.std.proofs.shelf.Bits.{div-add-mod'}
 use Rattle.std.proofs.shelf.Lanes.{pickL-whole}
 use Rattle.std.proofs.shelf.Signed.{ints, toZ-ofZ, ofZ-toZ}
 use Rattle.std.proofs.shelf.Ways.{tells}
-use Rattle.rows.specs.declared.fault.Fault.{Fault}
+use Rattle.faults.specs.declared.fault.Fault.{Fault}
 use Rattle.rows.specs.declared.pass.PassRow.{PassRow}
 use Rattle.rows.specs.declared.tuning.TuningRow.{TuningRow}
 use Rattle.rows.specs.declared.row.Row.{Row}

@@ -14,13 +14,13 @@ use Rattle.std.specs.declared.option.Option.{Option}
 use Rattle.std.specs.declared.option.Option.the-variants.{None, Some}
 use Rattle.std.specs.declared.result.Result.{Result}
 use Rattle.std.specs.declared.result.Result.the-variants.{Ok, Err}
-use Rattle.rows.specs.declared.fault.Fault.{Fault}
+use Rattle.faults.specs.declared.fault.Fault.{Fault}
 use Rattle.rows.specs.declared.pass.PassRow.{PassRow}
 use Rattle.rows.specs.declared.tuning.TuningRow.{TuningRow}
 use Rattle.rows.specs.declared.row.Row.{Row}
 use Rattle.rows.specs.declared.row.Row.the-variants.{Empty, Pass, Tuning}
 use Rattle.rows.specs.Bytes.{be2, be4, first-nonzero}
-use Rattle.rows.specs.Refusals.{unlawful-at}
+use Rattle.faults.specs.Refusals.{unlawful-at}
 
 abbrev pub within : ℕ → ℕ → ℕ → Bool
 within low high n = leb low n && leb n high

@@ -5,7 +5,7 @@ ghost use Rattle.std.specs.declared.result.Result.the-variants.{Ok, Err};
 ghost use Rattle.std.specs.Vec.{made};
 ghost use Rattle.rows.specs.Rows.{Held, FieldsRead, RowRead, written};
 use crate::bytes::nonzero_from;
-use crate::fault::Fault;
+use faults::fault::Fault;
 use crate::kind::RowKind;
 use crate::pass::PassRow;
 use crate::reading::PassRowKind;

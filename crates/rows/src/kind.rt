@@ -2,8 +2,8 @@ ghost use mathlib.Core.Path.{_≡_};
 ghost use mathlib.Core.List.{List};
 ghost use Prim.Native.Nat.{ℕ};
 ghost use Rattle.std.specs.declared.result.Result.{Result};
-ghost use Rattle.rows.specs.declared.fault.Fault.{Fault};
-use crate::fault::Fault;
+ghost use Rattle.faults.specs.declared.fault.Fault.{Fault};
+use faults::fault::Fault;
 
 // A kind of row: the number in a row's first byte that marks it, and how it is read.
 pub trait RowKind: Sized {

@@ -1,6 +1,6 @@
 ghost use mathlib.Core.Path.{_≡_};
 ghost use Rattle.rows.specs.Rows.{PassMade, TuningMade};
-use crate::fault::Fault;
+use faults::fault::Fault;
 use crate::pass::PassRow;
 use crate::tuning::TuningRow;
 

@@ -1,7 +1,7 @@
 ghost use Prim.Native.Nat.{_≤_};
 
 // A pass row: from `start`, in seconds of the week, an antenna follows a satellite for `seconds`.
-#[derive(Clone, Copy, PartialEq, Eq, Debug)]
+#[derive(Clone, Copy, PartialEq)]
 pub struct PassRow {
     pub satellite: u16,
     pub antenna: u8,

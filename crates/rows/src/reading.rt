@@ -2,7 +2,7 @@ ghost use Rattle.rows.specs.Rows.{PassRead, TuningRead};
 use crate::bytes::four_bytes;
 use crate::bytes::nonzero_from;
 use crate::bytes::two_bytes;
-use crate::fault::Fault;
+use faults::fault::Fault;
 use crate::kind::RowKind;
 use crate::pass::PassRow;
 use crate::tuning::TuningRow;

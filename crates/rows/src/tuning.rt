@@ -3,7 +3,7 @@ ghost use lib.IntN.{pos, negsuc};
 ghost use lib.Signed.{_≤ℤ_};
 
 // A tuning row: the downlink frequency on which a satellite is received, and the receiver's offset from it, in Hz.
-#[derive(Clone, Copy, PartialEq, Eq, Debug)]
+#[derive(Clone, Copy, PartialEq)]
 pub struct TuningRow {
     pub satellite: u16,
     pub downlink: u32,

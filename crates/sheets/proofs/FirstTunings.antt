@@ -16,7 +16,7 @@ use Rattle.std.specs.declared.result.Result.{Result}
 use Rattle.std.specs.declared.result.Result.the-variants.{Ok, Err}
 use Rattle.std.specs.Options.{isSome}
 use Rattle.std.proofs.shelf.Ways.{tells, eqb-tells}
-use Rattle.rows.specs.declared.fault.Fault.{Fault}
+use Rattle.faults.specs.declared.fault.Fault.{Fault}
 use Rattle.rows.specs.declared.row.Row.{Row}
 use Rattle.rows.specs.declared.row.Row.the-variants.{Empty, Pass, Tuning}
 use Rattle.rows.specs.declared.tuning.TuningRow.{TuningRow}

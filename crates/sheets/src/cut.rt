@@ -2,7 +2,7 @@ ghost use mathlib.Core.Path.{_≡_};
 ghost use Prim.Native.Nat.{_<_};
 ghost use Rattle.rows.specs.Rows.{RowRead};
 ghost use Rattle.sheets.specs.Sheet.{row-count, row-bytes};
-use rows::fault::Fault;
+use faults::fault::Fault;
 use rows::row::ROW_BYTES;
 use rows::row::Row;
 

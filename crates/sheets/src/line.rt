@@ -1,5 +1,5 @@
-use rows::fault::Fault;
-use rows::fault::FaultDisplay;
+use faults::fault::Fault;
+use faults::fault::FaultDisplay;
 use rows::pass::PassRow;
 use rows::tuning::TuningRow;
 use std::fmt;

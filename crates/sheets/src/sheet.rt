@@ -12,7 +12,7 @@ use crate::line::Finding;
 use crate::line::Line;
 use crate::report::Report;
 use crate::tunings::Tunings;
-use rows::fault::Fault;
+use faults::fault::Fault;
 use rows::row::ROW_BYTES;
 use rows::row::Row;
 use std::alloc::AllocError;

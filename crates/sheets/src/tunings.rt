@@ -7,7 +7,7 @@ ghost use Rattle.std.specs.declared.option.Option.the-variants.{None};
 ghost use Rattle.sheets.specs.Sheet.{FirstTuning, noted, row-count};
 use crate::cut::read_at;
 use crate::cut::row_count;
-use rows::fault::Fault;
+use faults::fault::Fault;
 use rows::row::Row;
 use std::alloc::AllocError;
 use std::alloc::Global;

@@ -1,8 +1,8 @@
 ghost use mathlib.Core.Path.{_≡_};
-ghost use Rattle.rows.specs.Refusals.{number-of};
+ghost use Rattle.faults.specs.Refusals.{number-of};
 
 // Why a call or an input is declined. The cases stand in the order of their numbers: where two fit, the upper answers.
-#[derive(Clone, Copy, PartialEq, Eq, Debug)]
+#[derive(Clone, Copy, PartialEq)]
 pub enum Refusal {
     // the tree, the files or a header's field is out of bounds
     Layout,

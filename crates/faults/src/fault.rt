@@ -1,30 +1,13 @@
 ghost use mathlib.Core.Path.{_≡_};
-ghost use Rattle.rows.specs.Refusals.{layer-number, unlawful-at};
+ghost use Rattle.faults.specs.Refusals.{unlawful-at};
+use crate::layer::Layer;
+use crate::layer::LayerPartialEq;
 use crate::refusal::Refusal;
-use crate::refusal::RefusalDebug;
 use crate::refusal::RefusalPartialEq;
 use std::fmt;
 
-// The part of the service that found a fault.
-#[derive(Clone, Copy, PartialEq, Eq, Debug)]
-pub enum Layer {
-    Scenario,
-    // a row or a frame
-    Format,
-    Network,
-}
-
-impl Layer {
-    // The number that the layer is told by.
-    pub fn number(self) -> u8
-        ensures { λ r. ⌜ r ≡ layer-number self ⌝ }
-    {
-        self as u8 + 1
-    }
-}
-
 // What is wrong with an input: why, at which byte, and who found it. Every layer passes it up whole, by `?`.
-#[derive(Clone, Copy, PartialEq, Eq, Debug)]
+#[derive(Clone, Copy, PartialEq)]
 pub struct Fault {
     pub refusal: Refusal,
     pub place: usize,

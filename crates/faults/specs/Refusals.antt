@@ -1,10 +1,10 @@
 -- The numbers by which refusals and layers are told. Assumes nothing.
 use Prim.Native.Nat.{ℕ}
-use Rattle.rows.specs.declared.fault.Fault.{Fault}
-use Rattle.rows.specs.declared.fault.Layer.{Layer}
-use Rattle.rows.specs.declared.fault.Layer.the-variants.{Scenario, Format, Network}
-use Rattle.rows.specs.declared.refusal.Refusal.{Refusal}
-use Rattle.rows.specs.declared.refusal.Refusal.the-variants.{Layout, OutboxTooSmall, UnknownNode, UnknownFile, BadPass, Busy, UsedUp, NoLiveCopy, RowsDiffer, OtherKind, UnlawfulRow, HandFull, NothingTaken, WrongSlip, UnknownFrame, FrameField, UnknownMark, CutShort, HistoryFull}
+use Rattle.faults.specs.declared.fault.Fault.{Fault}
+use Rattle.faults.specs.declared.layer.Layer.{Layer}
+use Rattle.faults.specs.declared.layer.Layer.the-variants.{Scenario, Format, Network}
+use Rattle.faults.specs.declared.refusal.Refusal.{Refusal}
+use Rattle.faults.specs.declared.refusal.Refusal.the-variants.{Layout, OutboxTooSmall, UnknownNode, UnknownFile, BadPass, Busy, UsedUp, NoLiveCopy, RowsDiffer, OtherKind, UnlawfulRow, HandFull, NothingTaken, WrongSlip, UnknownFrame, FrameField, UnknownMark, CutShort, HistoryFull}
 
 abbrev pub number-of : Refusal → ℕ
 number-of Layout = 1
