@@ -27,6 +27,16 @@ impl Fault {
     }
 }
 
+impl Fault {
+    // Tells a fault in a line of its own.
+    pub fn tell<W: fmt::Write>(&self, f: &mut fmt::Formatter<W>) -> fmt::Result {
+        let number = self.refusal.number();
+        let place = self.place;
+        let layer = self.layer.number();
+        write!(f, "refused with {number} at byte {place}, layer {layer}")
+    }
+}
+
 // The refusal's number, the byte and the layer's number.
 pub impl fmt::Display for Fault as FaultDisplay {
     fn fmt<W: fmt::Write>(&self, f: &mut fmt::Formatter<W>) -> fmt::Result {

@@ -1,4 +1,4 @@
 // Faults: why something is declined, everywhere in the service, and how that is told.
-pub mod refusal;
-pub mod layer;
 pub mod fault;
+pub mod layer;
+pub mod refusal;

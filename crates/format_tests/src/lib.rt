@@ -1,3 +1,5 @@
-// Tests of rows and of what is told of them. They stand in a crate of their own, since a crate with tests is proved twice.
+// Tests of rows and frames. They stand in a crate of their own, since a crate with tests is proved twice.
+#[cfg(test)]
+mod frames_read;
 #[cfg(test)]
 mod rows_read;

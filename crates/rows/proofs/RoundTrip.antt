@@ -94,13 +94,13 @@ passed place true rest e = e
 passed place false rest e = let z : _≡_ {A = ℕ} 0 1 = cc in absurd (omega arith)
 
 module _ (bs : List ℕ) (long : length bs ≡ 16) (fit : (i : ℕ) → getD bs i 0 < 256) where
-  same : (xs : List ℕ) → xs ≡ pickL 0 bs (counting 0 16) → xs ≡ bs
+  pub same : (xs : List ℕ) → xs ≡ pickL 0 bs (counting 0 16) → xs ≡ bs
   same xs e = e ∙ pickL-whole 0 bs 16 long
 
-  pair : (i n : ℕ) → n ≡ be2 bs i → (n / 256 % 256 ≡ getD bs i 0) × (n % 256 ≡ getD bs (i + 1) 0)
+  pub pair : (i n : ℕ) → n ≡ be2 bs i → (n / 256 % 256 ≡ getD bs i 0) × (n % 256 ≡ getD bs (i + 1) 0)
   pair i n e = let a = fit i in let b = fit (i + 1) in (omega arith, omega arith)
 
-  quad : (i n : ℕ) → n ≡ be4 bs i → (n / 16777216 % 256 ≡ getD bs i 0) × (n / 65536 % 256 ≡ getD bs (i + 1) 0) × (n / 256 % 256 ≡ getD bs (i + 2) 0) × (n % 256 ≡ getD bs (i + 3) 0)
+  pub quad : (i n : ℕ) → n ≡ be4 bs i → (n / 16777216 % 256 ≡ getD bs i 0) × (n / 65536 % 256 ≡ getD bs (i + 1) 0) × (n / 256 % 256 ≡ getD bs (i + 2) 0) × (n % 256 ≡ getD bs (i + 3) 0)
   quad i n e =
       let a = fit i in
       let b = fit (i + 1) in

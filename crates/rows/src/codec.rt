@@ -5,7 +5,6 @@ ghost use Rattle.std.specs.declared.result.Result.the-variants.{Ok, Err};
 ghost use Rattle.std.specs.Vec.{made};
 ghost use Rattle.rows.specs.Rows.{Held, FieldsRead, RowRead, written};
 use crate::bytes::nonzero_from;
-use faults::fault::Fault;
 use crate::kind::RowKind;
 use crate::pass::PassRow;
 use crate::reading::PassRowKind;
@@ -13,6 +12,7 @@ use crate::reading::TuningRowKind;
 use crate::row::ROW_BYTES;
 use crate::row::Row;
 use crate::tuning::TuningRow;
+use faults::fault::Fault;
 
 // The 16 bytes of a slice; one of another length is unlawful at the first byte that is missing or too many.
 fn sixteen(bytes: &[u8]) -> Result<&[u8; 16], Fault>

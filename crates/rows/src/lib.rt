@@ -10,4 +10,5 @@ pub mod pass;
 pub mod reading;
 pub mod row;
 pub mod tuning;
+pub mod words;
 pub mod worked;

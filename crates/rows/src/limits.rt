@@ -1,8 +1,8 @@
 ghost use mathlib.Core.Path.{_≡_};
 ghost use Rattle.rows.specs.Rows.{PassMade, TuningMade};
-use faults::fault::Fault;
 use crate::pass::PassRow;
 use crate::tuning::TuningRow;
+use faults::fault::Fault;
 
 const ANTENNAS: u8 = 8;
 

@@ -2,10 +2,10 @@ ghost use Rattle.rows.specs.Rows.{PassRead, TuningRead};
 use crate::bytes::four_bytes;
 use crate::bytes::nonzero_from;
 use crate::bytes::two_bytes;
-use faults::fault::Fault;
 use crate::kind::RowKind;
 use crate::pass::PassRow;
 use crate::tuning::TuningRow;
+use faults::fault::Fault;
 
 pub impl RowKind for PassRow as PassRowKind {
     const KIND: u8 = 1;

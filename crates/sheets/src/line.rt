@@ -1,7 +1,8 @@
 use faults::fault::Fault;
-use faults::fault::FaultDisplay;
 use rows::pass::PassRow;
 use rows::tuning::TuningRow;
+use rows::words::PassRowDisplay;
+use rows::words::TuningRowDisplay;
 use std::fmt;
 
 // What the check finds in one row's place.
@@ -21,27 +22,6 @@ pub struct Line {
     pub finding: Finding,
 }
 
-fn show_pass<W: fmt::Write>(f: &mut fmt::Formatter<W>, row: PassRow) -> fmt::Result {
-    let satellite = row.satellite;
-    let antenna = row.antenna;
-    let start = row.start;
-    let seconds = row.seconds;
-    write!(
-        f,
-        "pass of satellite {satellite} on antenna {antenna}, start {start} s, length {seconds} s, "
-    )
-}
-
-fn show_tuning<W: fmt::Write>(f: &mut fmt::Formatter<W>, row: TuningRow) -> fmt::Result {
-    let satellite = row.satellite;
-    let downlink = row.downlink;
-    let offset = row.offset;
-    write!(
-        f,
-        "tuning of satellite {satellite}, downlink {downlink} Hz, offset {offset} Hz"
-    )
-}
-
 pub impl fmt::Display for Line as LineDisplay {
     fn fmt<W: fmt::Write>(&self, f: &mut fmt::Formatter<W>) -> fmt::Result {
         let number = self.number;
@@ -49,19 +29,14 @@ pub impl fmt::Display for Line as LineDisplay {
         match self.finding {
             Finding::Empty => write!(f, "empty"),
             Finding::Pass(row, tuning) => {
-                show_pass(f, row)?;
+                write!(f, "{row}, ")?;
                 match tuning {
                     Some(tuning) => write!(f, "tuning in row {tuning}"),
                     None => write!(f, "no tuning row"),
                 }
             }
-            Finding::Tuning(row) => show_tuning(f, row),
-            Finding::Faulty(fault) => {
-                let number = fault.refusal.number();
-                let place = fault.place;
-                let layer = fault.layer.number();
-                write!(f, "refused with {number} at byte {place}, layer {layer}")
-            }
+            Finding::Tuning(row) => write!(f, "{row}"),
+            Finding::Faulty(fault) => fault.tell(f),
         }
     }
 }

@@ -1,0 +1,7 @@
+pub mod Same
+pub mod OneMark
+pub mod Zeros
+pub mod Fitting
+pub mod Flat
+pub mod RoundTrip
+pub mod Held
