@@ -1,5 +1,8 @@
 -- The numbers by which refusals and layers are told. Assumes nothing.
+use mathlib.Core.List.{List, _++_}
 use Prim.Native.Nat.{ℕ}
+use lib.Chars.{codes}
+use Rattle.std.specs.Written.{decimal}
 use Rattle.faults.specs.declared.fault.Fault.{Fault}
 use Rattle.faults.specs.declared.layer.Layer.{Layer}
 use Rattle.faults.specs.declared.layer.Layer.the-variants.{Scenario, Format, Network}
@@ -35,3 +38,9 @@ layer-number Network = 3
 -- a row that is unlawful from a byte on
 abbrev pub unlawful-at : ℕ → Fault
 unlawful-at place = record { refusal = UnlawfulRow; place = place; layer = Format }
+
+-- a fault in words, as the bytes of its text
+abbrev pub told : Fault → List ℕ
+told fault =
+    codes "refused with " ++ (decimal (number-of (fault .refusal)) ++
+    (codes " at byte " ++ (decimal (fault .place) ++ (codes ", layer " ++ decimal (layer-number (fault .layer))))))

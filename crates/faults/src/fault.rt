@@ -1,5 +1,6 @@
 ghost use mathlib.Core.Path.{_≡_};
-ghost use Rattle.faults.specs.Refusals.{unlawful-at};
+ghost use Rattle.std.specs.declared.option.Option.the-variants.{Some};
+ghost use Rattle.faults.specs.Refusals.{unlawful-at, told};
 use crate::layer::Layer;
 use crate::layer::LayerPartialEq;
 use crate::refusal::Refusal;
@@ -27,22 +28,14 @@ impl Fault {
     }
 }
 
-impl Fault {
-    // Tells a fault in a line of its own.
-    pub fn tell<W: fmt::Write>(&self, f: &mut fmt::Formatter<W>) -> fmt::Result {
-        let number = self.refusal.number();
-        let place = self.place;
-        let layer = self.layer.number();
-        write!(f, "refused with {number} at byte {place}, layer {layer}")
-    }
-}
-
-// The refusal's number, the byte and the layer's number.
+// A fault in words.
 pub impl fmt::Display for Fault as FaultDisplay {
+    ghost shown = { λ fault. Some (told fault) };
+
     fn fmt<W: fmt::Write>(&self, f: &mut fmt::Formatter<W>) -> fmt::Result {
         let number = self.refusal.number();
         let place = self.place;
         let layer = self.layer.number();
-        write!(f, "{number} {place} {layer}")
+        write!(f, "refused with {number} at byte {place}, layer {layer}")
     }
 }

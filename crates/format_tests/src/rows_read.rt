@@ -74,8 +74,11 @@ fn other_lengths_and_kinds_are_refused() -> Result<(), Fail> {
 }
 
 #[test]
-fn a_fault_shows_number_place_and_layer(rt: LibcRuntime) -> Result<(), Fail> {
-    check_eq(Fault::unlawful(7).to_string(rt.alloc())?.as_str(), "11 7 2")?;
+fn a_fault_is_told_in_words(rt: LibcRuntime) -> Result<(), Fail> {
+    check_eq(
+        Fault::unlawful(7).to_string(rt.alloc())?.as_str(),
+        "refused with 11 at byte 7, layer 2",
+    )?;
     check_eq(Refusal::Layout.number(), 1)?;
     check_eq(Refusal::HistoryFull.number(), 19)
 }

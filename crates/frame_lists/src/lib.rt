@@ -2,3 +2,4 @@
 pub mod line;
 pub mod list;
 pub mod listing;
+pub mod words;

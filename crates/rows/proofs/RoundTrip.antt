@@ -44,7 +44,7 @@ whole4 n h =
     let top : n / 256 / 256 ≤ 65535 = omega arith in
     rw (e2, e1) (omega (arith, whole2 (n / 256 / 256) top, div-add-mod' n 256, div-add-mod' (n / 256) 256))
 
-offset-fits : (z : ℤ) → negsuc 199999 ≤ℤ z → z ≤ℤ pos 200000 → SFits w32 z
+pub offset-fits : (z : ℤ) → negsuc 199999 ≤ℤ z → z ≤ℤ pos 200000 → SFits w32 z
 offset-fits (pos n) low high = record { sfits = omega (arith, ints) }
 offset-fits (negsuc n) low high = record { sfits = omega (arith, ints) }
 

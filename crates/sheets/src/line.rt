@@ -1,4 +1,7 @@
+ghost use Rattle.std.specs.declared.option.Option.the-variants.{Some};
+ghost use Rattle.sheets.specs.Words.{line-words};
 use faults::fault::Fault;
+use faults::fault::FaultDisplay;
 use rows::pass::PassRow;
 use rows::tuning::TuningRow;
 use rows::words::PassRowDisplay;
@@ -23,20 +26,18 @@ pub struct Line {
 }
 
 pub impl fmt::Display for Line as LineDisplay {
+    ghost shown = { λ line. Some (line-words line) };
+
     fn fmt<W: fmt::Write>(&self, f: &mut fmt::Formatter<W>) -> fmt::Result {
         let number = self.number;
-        write!(f, "row {number}: ")?;
         match self.finding {
-            Finding::Empty => write!(f, "empty"),
-            Finding::Pass(row, tuning) => {
-                write!(f, "{row}, ")?;
-                match tuning {
-                    Some(tuning) => write!(f, "tuning in row {tuning}"),
-                    None => write!(f, "no tuning row"),
-                }
-            }
-            Finding::Tuning(row) => write!(f, "{row}"),
-            Finding::Faulty(fault) => fault.tell(f),
+            Finding::Empty => write!(f, "row {number}: empty"),
+            Finding::Pass(row, tuning) => match tuning {
+                Some(tuning) => write!(f, "row {number}: {row}, tuning in row {tuning}"),
+                None => write!(f, "row {number}: {row}, no tuning row"),
+            },
+            Finding::Tuning(row) => write!(f, "row {number}: {row}"),
+            Finding::Faulty(fault) => write!(f, "row {number}: {fault}"),
         }
     }
 }

@@ -1,0 +1,17 @@
+pub mod Lookups
+pub mod Net
+pub mod Rules
+pub mod Messages
+pub mod State
+pub mod Events
+pub mod Unchanged
+pub mod Passing
+pub mod Leasing
+pub mod Recalling
+pub mod Writing
+pub mod Steps
+pub mod Runs
+pub mod Calls
+pub mod Story
+pub mod Promises
+pub mod Witnesses
