@@ -10,8 +10,8 @@ use channels::pool::Pool;
 use channels::pool::PoolChannel;
 use channels::queue::Queue;
 use channels::queue::QueueChannel;
-use frames::body::Body;
-use frames::message::Message;
+use messages::body::Body;
+use messages::message::Message;
 use std::io;
 
 // Asks with these numbers are sent; the second 6 is sent again on purpose.

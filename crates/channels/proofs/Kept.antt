@@ -13,7 +13,7 @@ use Rattle.std.specs.declared.result.Result.the-variants.{Ok, Err}
 use Rattle.std.specs.Options.{isSome, mapped}
 use Rattle.std.proofs.shelf.Ways.{tells}
 use Rattle.faults.specs.declared.fault.Fault.{Fault}
-use Rattle.frames.specs.declared.message.Message.{Message}
+use Rattle.messages.specs.declared.message.Message.{Message}
 use Rattle.frames.specs.Frames.{frame-fault, framed}
 use Rattle.frames.proofs.RoundTrip.{read-framed, read-forth}
 use Rattle.channels.specs.Frames.{all-frames}

@@ -3,8 +3,8 @@ ghost use mathlib.Core.Logic.{_⊎_};
 ghost use Rattle.std.specs.declared.option.Option.{Option};
 ghost use Rattle.std.specs.declared.option.Option.the-variants.{Some};
 ghost use Rattle.std.specs.Vec.{made};
-ghost use Rattle.frames.specs.declared.message.Message.{Message};
-use frames::message::Message;
+ghost use Rattle.messages.specs.declared.message.Message.{Message};
+use messages::message::Message;
 use std::alloc::AllocError;
 use std::alloc::Global;
 

@@ -3,7 +3,7 @@ ghost use mathlib.Core.Logic.{_⊎_};
 ghost use Rattle.std.specs.declared.option.Option.the-variants.{None, Some};
 ghost use Rattle.std.specs.Options.{Cases as BySome};
 use crate::channel::Channel;
-use frames::message::Message;
+use messages::message::Message;
 use std::alloc::AllocError;
 use std::alloc::Global;
 

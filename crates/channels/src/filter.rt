@@ -5,11 +5,11 @@ ghost use Rattle.std.specs.Of.Vec.{vec-items, vec-len, vec-cap};
 ghost use Rattle.std.specs.Orderings.{Decides};
 ghost use Rattle.std.specs.shelf.Lists.{Has};
 ghost use Rattle.std.specs.declared.option.Option.{Option};
-ghost use Rattle.frames.specs.declared.message.Message.{Message};
+ghost use Rattle.messages.specs.declared.message.Message.{Message};
 ghost use Rattle.channels.specs.Filter.{Filtered, remembered};
 use crate::channel::Channel;
-use frames::equality::MessagePartialEq;
-use frames::message::Message;
+use messages::equality::MessagePartialEq;
+use messages::message::Message;
 use std::alloc::AllocError;
 use std::alloc::Global;
 

@@ -3,7 +3,7 @@ ghost use mathlib.Core.Bool.{cond};
 ghost use Prim.Native.Nat.{_+_, _≤_};
 ghost use lib.Dec.{eqb};
 use crate::channel::Channel;
-use frames::message::Message;
+use messages::message::Message;
 use std::alloc::AllocError;
 use std::alloc::Global;
 

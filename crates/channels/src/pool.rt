@@ -11,7 +11,7 @@ use crate::channel::Channel;
 use crate::queue::PLACES;
 use frames::codec::decode;
 use frames::codec::encode;
-use frames::message::Message;
+use messages::message::Message;
 use std::alloc::AllocError;
 use std::alloc::Global;
 

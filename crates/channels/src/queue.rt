@@ -4,7 +4,7 @@ ghost use Prim.Native.Nat.{_≤_};
 ghost use Rattle.std.specs.Of.VecDeque.{deque-items, deque-len, deque-cap};
 ghost use Rattle.channels.specs.Places.{stored, first, rest};
 use crate::channel::Channel;
-use frames::message::Message;
+use messages::message::Message;
 use std::alloc::AllocError;
 use std::alloc::Global;
 use std::collections::VecDeque;

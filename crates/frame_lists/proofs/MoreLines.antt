@@ -9,7 +9,7 @@ use Rattle.std.proofs.shelf.Lists.{getD-append-left, getD-push}
 use Rattle.std.specs.declared.result.Result.{Result}
 use Rattle.std.specs.declared.result.Result.the-variants.{Ok, Err}
 use Rattle.faults.specs.declared.fault.Fault.{Fault}
-use Rattle.frames.specs.declared.message.Message.{Message}
+use Rattle.messages.specs.declared.message.Message.{Message}
 use Rattle.frame_lists.specs.declared.line.Line.{Line}
 use Rattle.frame_lists.specs.Lists.{frame-bytes, LineIs, LinesAre, refused, faulty, faults-in}
 

@@ -7,7 +7,7 @@ use Rattle.std.specs.declared.result.Result.{Result}
 use Rattle.std.specs.declared.result.Result.the-variants.{Ok, Err}
 use Rattle.std.specs.Of.Vec.{vec-items}
 use Rattle.faults.specs.declared.fault.Fault.{Fault}
-use Rattle.frames.specs.declared.message.Message.{Message}
+use Rattle.messages.specs.declared.message.Message.{Message}
 use Rattle.frames.specs.Frames.{FrameRead}
 use Rattle.frame_lists.specs.declared.line.Line.{Line}
 use Rattle.frame_lists.specs.declared.listing.Listing.{Listing}

@@ -8,9 +8,9 @@ use Rattle.std.specs.Written.{decimal}
 use Rattle.faults.specs.declared.fault.Fault.{Fault}
 use Rattle.faults.specs.Refusals.{told}
 use Rattle.rows.specs.Words.{row-words}
-use Rattle.frames.specs.declared.body.Body.{Body}
-use Rattle.frames.specs.declared.body.Body.the-variants.{Ask, Grant, Recall, Approve, Write, Done}
-use Rattle.frames.specs.declared.message.Message.{Message}
+use Rattle.messages.specs.declared.body.Body.{Body}
+use Rattle.messages.specs.declared.body.Body.the-variants.{Ask, Grant, Recall, Approve, Write, Done}
+use Rattle.messages.specs.declared.message.Message.{Message}
 use Rattle.frame_lists.specs.declared.line.Line.{Line}
 
 abbrev pub way-words : Message → List ℕ

@@ -4,7 +4,7 @@ use crate::words::InWords;
 use crate::words::InWordsDisplay;
 use faults::fault::Fault;
 use faults::fault::FaultDisplay;
-use frames::message::Message;
+use messages::message::Message;
 use std::fmt;
 
 // One frame of the list; the first has the number 1.

@@ -7,7 +7,7 @@ use crate::line::Line;
 use crate::listing::Listing;
 use faults::fault::Fault;
 use frames::codec::decode;
-use frames::message::Message;
+use messages::message::Message;
 use std::alloc::AllocError;
 use std::alloc::Global;
 

@@ -1,8 +1,8 @@
 // A message in words: its kind, its way, its file and what it says.
 ghost use Rattle.std.specs.declared.option.Option.the-variants.{Some};
 ghost use Rattle.frame_lists.specs.Words.{way-words, message-words};
-use frames::body::Body;
-use frames::message::Message;
+use messages::body::Body;
+use messages::message::Message;
 use rows::words::RowDisplay;
 use std::fmt;
 

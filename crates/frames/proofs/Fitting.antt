@@ -18,13 +18,13 @@ use Rattle.faults.specs.declared.fault.Fault.{Fault}
 use Rattle.rows.specs.Bytes.{be2, be4}
 use Rattle.faults.specs.Refusals.{unlawful-at}
 use Rattle.rows.specs.Rows.{row-wrong}
-use Rattle.frames.specs.declared.kind.Kind.{Kind}
-use Rattle.frames.specs.declared.kind.Kind.the-variants.{Ask, Grant, Recall, Approve, Write, Done}
-use Rattle.frames.specs.declared.marks.Form.{Form}
-use Rattle.frames.specs.declared.message.Message.{Message}
+use Rattle.messages.specs.declared.kind.Kind.{Kind}
+use Rattle.messages.specs.declared.kind.Kind.the-variants.{Ask, Grant, Recall, Approve, Write, Done}
+use Rattle.messages.specs.declared.marks.Form.{Form}
+use Rattle.messages.specs.declared.message.Message.{Message}
 use Rattle.frames.specs.Accepts.{mark, In, Uses, Fits, LawfulFrame}
 use Rattle.frames.specs.Frames.{unknown-frame, wrong-at, fault-at, first-of, all-zero, fields-wrong, row-fault, marked-fault, frame-fault, FrameRead}
-use Rattle.frames.specs.Marks.{form, kind-marked}
+use Rattle.messages.specs.Marks.{form, kind-marked}
 use Rattle.frames.proofs.OneMark.{kind-found, mark-found}
 use Rattle.frames.proofs.Zeros.{each-zero, zero-all}
 

@@ -9,14 +9,14 @@ use Rattle.rows.specs.declared.row.Row.{Row}
 use Rattle.rows.specs.declared.row.Row.the-variants.{Empty, Pass, Tuning}
 use Rattle.rows.specs.Rows.{RowIs, written}
 use Rattle.rows.proofs.RoundTrip.{read-written}
-use Rattle.frames.specs.declared.body.Body.{Body}
-use Rattle.frames.specs.declared.body.Body.the-variants as body
-use Rattle.frames.specs.declared.kind.Kind.{Kind}
-use Rattle.frames.specs.declared.kind.Kind.the-variants.{Ask, Grant, Recall, Approve, Write, Done}
+use Rattle.messages.specs.declared.body.Body.{Body}
+use Rattle.messages.specs.declared.body.Body.the-variants as body
+use Rattle.messages.specs.declared.kind.Kind.{Kind}
+use Rattle.messages.specs.declared.kind.Kind.the-variants.{Ask, Grant, Recall, Approve, Write, Done}
 use Rattle.frames.specs.declared.parts.Parts.{Parts}
 use Rattle.frames.specs.Accepts.{Zero, Uses}
-use Rattle.frames.specs.Bounds.{lawful-body}
-use Rattle.frames.specs.Kinds.{kind-of}
+use Rattle.messages.specs.Bounds.{lawful-body}
+use Rattle.messages.specs.Kinds.{kind-of}
 use Rattle.frames.specs.Parts.{says, flat, body-by, body-of}
 use Rattle.frames.proofs.Zeros.{each-zero}
 

@@ -10,14 +10,14 @@ use Rattle.rows.specs.declared.row.Row.{Row}
 use Rattle.rows.specs.declared.row.Row.the-variants.{Empty}
 use Rattle.rows.specs.Bytes.{be2}
 use Rattle.rows.specs.Rows.{RowIs}
-use Rattle.frames.specs.declared.body.Body.{Body}
-use Rattle.frames.specs.declared.kind.Kind.{Kind}
-use Rattle.frames.specs.declared.marks.Form.{Form}
+use Rattle.messages.specs.declared.body.Body.{Body}
+use Rattle.messages.specs.declared.kind.Kind.{Kind}
+use Rattle.messages.specs.declared.marks.Form.{Form}
 use Rattle.frames.specs.declared.parts.Parts.{Parts}
 use Rattle.frames.specs.Accepts.{Uses, Fits}
-use Rattle.frames.specs.Bounds.{lawful-body}
+use Rattle.messages.specs.Bounds.{lawful-body}
 use Rattle.frames.specs.Frames.{wrong-at, fault-at, all-zero, fields-wrong, frame-fault, FrameIs}
-use Rattle.frames.specs.Marks.{form, kind-marked}
+use Rattle.messages.specs.Marks.{form, kind-marked}
 use Rattle.frames.specs.Parts.{flat, body-of}
 use Rattle.frames.proofs.Fitting.{nowhere, keeps, fits-marked}
 use Rattle.frames.proofs.Flat.{body-lawful, parts-again}

@@ -1,4 +1,3 @@
-pub mod Same
 pub mod OneMark
 pub mod Zeros
 pub mod Fitting

@@ -7,11 +7,11 @@ use Prim.Native.Nat.{ℕ}
 use native.Mathlib.Omega.{arith}
 use Rattle.std.specs.declared.option.Option.the-variants.{Some}
 use Rattle.std.proofs.shelf.Ways.{eqb-tells}
-use Rattle.frames.specs.declared.kind.Kind.{Kind}
-use Rattle.frames.specs.declared.kind.Kind.the-variants.{Ask, Grant, Recall, Approve, Write, Done}
-use Rattle.frames.specs.declared.marks.Form.{Form}
+use Rattle.messages.specs.declared.kind.Kind.{Kind}
+use Rattle.messages.specs.declared.kind.Kind.the-variants.{Ask, Grant, Recall, Approve, Write, Done}
+use Rattle.messages.specs.declared.marks.Form.{Form}
 use Rattle.frames.specs.Accepts.{mark}
-use Rattle.frames.specs.Marks.{form, forms, marked, kind-marked}
+use Rattle.messages.specs.Marks.{form, forms, marked, kind-marked}
 
 -- the table has each kind's mark
 pub mark-is : (kind : Kind) → form kind .mark ≡ mark kind

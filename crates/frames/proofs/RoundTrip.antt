@@ -16,19 +16,19 @@ use Rattle.rows.specs.declared.row.Row.{Row}
 use Rattle.rows.specs.declared.row.Row.the-variants.{Empty, Pass, Tuning}
 use Rattle.rows.specs.Rows.{RowIs, row-wrong, two, four, written}
 use Rattle.rows.proofs.RoundTrip.{whole2, whole4, read-written, reads-one, pair, quad, same, made-back}
-use Rattle.frames.specs.declared.kind.Kind.{Kind}
-use Rattle.frames.specs.declared.kind.Kind.the-variants.{Ask, Grant, Recall, Approve, Write, Done}
-use Rattle.frames.specs.declared.message.Message.{Message}
+use Rattle.messages.specs.declared.kind.Kind.{Kind}
+use Rattle.messages.specs.declared.kind.Kind.the-variants.{Ask, Grant, Recall, Approve, Write, Done}
+use Rattle.messages.specs.declared.message.Message.{Message}
 use Rattle.frames.specs.declared.parts.Parts.{Parts}
 use Rattle.frames.specs.Accepts.{mark, Zero, Uses, Fits}
 use Rattle.frames.specs.Frames.{frame-fault, FrameHas, FrameIs, FrameRead, laid-out, framed}
-use Rattle.frames.specs.Kinds.{kind-of}
-use Rattle.frames.specs.Marks.{form}
+use Rattle.messages.specs.Kinds.{kind-of}
+use Rattle.messages.specs.Marks.{form}
 use Rattle.frames.specs.Parts.{says, parts, body-of}
 use Rattle.frames.proofs.Fitting.{whole-length, fits-marked, no-fault}
 use Rattle.frames.proofs.Flat.{body-again, empty-row, lawful-uses}
 use Rattle.frames.proofs.OneMark.{mark-is, same-mark}
-use Rattle.frames.proofs.Same.{same-message}
+use Rattle.messages.proofs.Same.{same-message}
 use Rattle.frames.proofs.Zeros.{zeros-are}
 
 mark-whole : (kind : Kind) → form kind .mark / 256 % 256 * 256 + form kind .mark % 256 ≡ form kind .mark

@@ -6,8 +6,8 @@ use lib.ListN.{length, getD, take, drop}
 use Rattle.std.specs.declared.option.Option.the-variants.{None}
 use Rattle.rows.specs.Bytes.{be2, be4}
 use Rattle.rows.specs.Rows.{row-wrong}
-use Rattle.frames.specs.declared.kind.Kind.{Kind}
-use Rattle.frames.specs.declared.kind.Kind.the-variants.{Ask, Grant, Recall, Approve, Write, Done}
+use Rattle.messages.specs.declared.kind.Kind.{Kind}
+use Rattle.messages.specs.declared.kind.Kind.the-variants.{Ask, Grant, Recall, Approve, Write, Done}
 
 -- the two letters AS, GR, RC, AP, WR and DN
 abbrev pub mark : Kind → ℕ

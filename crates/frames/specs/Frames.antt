@@ -18,12 +18,12 @@ use Rattle.rows.specs.declared.row.Row.the-variants.{Empty}
 use Rattle.rows.specs.Bytes.{be2, be4}
 use Rattle.faults.specs.Refusals.{unlawful-at}
 use Rattle.rows.specs.Rows.{within, field, row-wrong, RowIs, two, four, written}
-use Rattle.frames.specs.declared.kind.Kind.{Kind}
-use Rattle.frames.specs.declared.marks.Form.{Form}
-use Rattle.frames.specs.declared.limits.Span.{Span}
-use Rattle.frames.specs.declared.message.Message.{Message}
+use Rattle.messages.specs.declared.kind.Kind.{Kind}
+use Rattle.messages.specs.declared.marks.Form.{Form}
+use Rattle.messages.specs.declared.limits.Span.{Span}
+use Rattle.messages.specs.declared.message.Message.{Message}
 use Rattle.frames.specs.declared.parts.Parts.{Parts}
-use Rattle.frames.specs.Marks.{form, kind-marked}
+use Rattle.messages.specs.Marks.{form, kind-marked}
 use Rattle.frames.specs.Parts.{parts}
 
 -- a frame of another length or mark, and one whose field at a byte is wrong

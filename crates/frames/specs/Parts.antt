@@ -2,13 +2,13 @@
 use Prim.Native.Nat.{ℕ}
 use Rattle.rows.specs.declared.row.Row.{Row}
 use Rattle.rows.specs.declared.row.Row.the-variants.{Empty}
-use Rattle.frames.specs.declared.body.Body.{Body}
-use Rattle.frames.specs.declared.body.Body.the-variants.{Ask, Grant, Recall, Approve, Write, Done}
-use Rattle.frames.specs.declared.kind.Kind.{Kind}
-use Rattle.frames.specs.declared.kind.Kind.the-variants as kind
-use Rattle.frames.specs.declared.message.Message.{Message}
+use Rattle.messages.specs.declared.body.Body.{Body}
+use Rattle.messages.specs.declared.body.Body.the-variants.{Ask, Grant, Recall, Approve, Write, Done}
+use Rattle.messages.specs.declared.kind.Kind.{Kind}
+use Rattle.messages.specs.declared.kind.Kind.the-variants as kind
+use Rattle.messages.specs.declared.message.Message.{Message}
 use Rattle.frames.specs.declared.parts.Parts.{Parts}
-use Rattle.frames.specs.Kinds.{kind-of}
+use Rattle.messages.specs.Kinds.{kind-of}
 
 -- number, version, term and row of a body; one that its kind doesn't use is 0, and a row empty
 abbrev pub says : Body → ℕ × ℕ × ℕ × Row

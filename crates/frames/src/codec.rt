@@ -3,14 +3,14 @@ ghost use Rattle.std.specs.Orderings.{Decides};
 ghost use Rattle.std.specs.Results.{Cases, isOk};
 ghost use Rattle.std.specs.Vec.{made};
 ghost use Rattle.std.specs.declared.result.Result.the-variants.{Ok, Err};
-ghost use Rattle.frames.specs.declared.message.Message.{Message};
+ghost use Rattle.messages.specs.declared.message.Message.{Message};
 ghost use Rattle.frames.specs.Accepts.{LawfulFrame};
 ghost use Rattle.frames.specs.Frames.{FrameRead, framed};
-use crate::message::Message;
 use crate::parts::Parts;
 use crate::reading::read_parts;
 use crate::writing::lay_out;
 use faults::fault::Fault;
+use messages::message::Message;
 
 // The bounds of the parts that were read are those of a message.
 fn read_message(bytes: &[u8]) -> Result<Message, Fault>

@@ -3,12 +3,12 @@ ghost use Rattle.frames.specs.Frames.{all-zero, Passed, FieldsPass};
 use crate::head::number_in;
 use crate::head::term_in;
 use crate::head::version_in;
-use crate::limits::LAST_FILE;
-use crate::limits::LAST_NODE;
-use crate::marks::Form;
 use faults::fault::Fault;
 use faults::layer::Layer;
 use faults::refusal::Refusal;
+use messages::limits::LAST_FILE;
+use messages::limits::LAST_NODE;
+use messages::marks::Form;
 
 // A field that is out of order is told by its first byte in the frame.
 fn field(place: usize, ok: bool) -> Result<(), Fault>

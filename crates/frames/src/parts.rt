@@ -1,8 +1,8 @@
 ghost use mathlib.Core.Path.{_≡_};
 ghost use Rattle.frames.specs.Parts.{parts, body-of};
-use crate::body::Body;
-use crate::kind::Kind;
-use crate::message::Message;
+use messages::body::Body;
+use messages::kind::Kind;
+use messages::message::Message;
 use rows::row::Row;
 
 // A message laid out flat: a field that its kind doesn't use is 0, and a row empty.

@@ -5,12 +5,12 @@ use crate::head::mark_in;
 use crate::head::number_in;
 use crate::head::term_in;
 use crate::head::version_in;
-use crate::kind::Kind;
-use crate::marks::Form;
 use crate::parts::Parts;
 use faults::fault::Fault;
 use faults::layer::Layer;
 use faults::refusal::Refusal;
+use messages::kind::Kind;
+use messages::marks::Form;
 use rows::row::Row;
 
 fn unknown_frame() -> Fault

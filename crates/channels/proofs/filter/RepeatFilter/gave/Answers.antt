@@ -4,7 +4,7 @@ use Rattle.std.specs.Of.Vec.{vec-items}
 use Rattle.std.specs.Orderings.{Decides}
 use Rattle.std.specs.shelf.Lists.{Has}
 use Rattle.std.proofs.shelf.Elements.{has-from-contains}
-use Rattle.frames.specs.declared.message.Message.{Message}
+use Rattle.messages.specs.declared.message.Message.{Message}
 use Rattle.channels.proofs.filter.RepeatFilter.gave.Needs as need
 
 pub returns : need.returns

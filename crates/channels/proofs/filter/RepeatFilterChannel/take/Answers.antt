@@ -3,7 +3,7 @@ use mathlib.Core.List.{List}
 use borrow.Author.Needs.{needs}
 use Rattle.std.specs.Of.Vec.{vec-items}
 use Rattle.std.specs.declared.option.Option.the-variants.{None, Some}
-use Rattle.frames.specs.declared.message.Message.{Message}
+use Rattle.messages.specs.declared.message.Message.{Message}
 use Rattle.channels.specs.Filter.{Filtered, nothing, again, fresh}
 use Rattle.channels.proofs.Filters.{not-given}
 use Rattle.channels.proofs.filter.RepeatFilterChannel.take.Needs as need

@@ -1,7 +1,7 @@
 use mathlib.Core.Path.{_≡_, sym, subst}
 use Rattle.std.specs.declared.option.Option.{Option}
 use Rattle.std.specs.declared.option.Option.the-variants.{None, Some}
-use Rattle.frames.specs.declared.message.Message.{Message}
+use Rattle.messages.specs.declared.message.Message.{Message}
 use Rattle.channels.proofs.Filters.{given-came}
 use Rattle.channels.proofs.filter.RepeatFilterChannel.the-impl.Needs as need
 

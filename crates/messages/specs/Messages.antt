@@ -5,9 +5,9 @@ use Prim.Native.Nat.{ℕ}
 use lib.Dec.{leb}
 use Rattle.std.specs.declared.option.Option.{Option}
 use Rattle.std.specs.declared.option.Option.the-variants.{None, Some}
-use Rattle.frames.specs.declared.body.Body.{Body}
-use Rattle.frames.specs.declared.message.Message.{Message}
-use Rattle.frames.specs.Bounds.{lawful-body}
+use Rattle.messages.specs.declared.body.Body.{Body}
+use Rattle.messages.specs.declared.message.Message.{Message}
+use Rattle.messages.specs.Bounds.{lawful-body}
 
 abbrev pub in-bounds : (from to file : ℕ) → Body → Bool
 in-bounds from to file body = leb from 15 && (leb to 15 && (leb file 31 && lawful-body body))

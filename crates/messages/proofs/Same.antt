@@ -4,8 +4,8 @@ use mathlib.Core.Bool.{true, Bool-set}
 use mathlib.Core.HLevel.{isProp→PathP, ×-prop}
 use native.Mathlib.Bridge.{le-prop}
 use Prim.Native.Nat.{_≤_}
-use Rattle.frames.specs.declared.message.Message.{Message}
-use Rattle.frames.specs.Bounds.{lawful-body}
+use Rattle.messages.specs.declared.message.Message.{Message}
+use Rattle.messages.specs.Bounds.{lawful-body}
 
 pub same-message : (a b : Message) → a .from ≡ b .from → a .to ≡ b .to → a .file ≡ b .file → a .body ≡ b .body → a ≡ b
 same-message a b from to file body = λ i. record {

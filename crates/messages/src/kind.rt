@@ -1,5 +1,5 @@
 ghost use mathlib.Core.Path.{_≡_};
-ghost use Rattle.frames.specs.Kinds.{kind-number, kind-of};
+ghost use Rattle.messages.specs.Kinds.{kind-number, kind-of};
 use crate::body::Body;
 use crate::marks::FORMS;
 use crate::message::Message;

@@ -5,11 +5,11 @@ use Prim.Native.Nat.{ℕ}
 use lib.Dec.{eqb}
 use Rattle.std.specs.declared.option.Option.{Option}
 use Rattle.std.specs.declared.option.Option.the-variants.{None, Some}
-use Rattle.frames.specs.declared.kind.Kind.{Kind}
-use Rattle.frames.specs.declared.kind.Kind.the-variants.{Ask, Grant, Recall, Approve, Write, Done}
-use Rattle.frames.specs.declared.marks.Form.{Form}
-use Rattle.frames.specs.declared.limits.Span.{Span}
-use Rattle.frames.specs.Kinds.{kind-number}
+use Rattle.messages.specs.declared.kind.Kind.{Kind}
+use Rattle.messages.specs.declared.kind.Kind.the-variants.{Ask, Grant, Recall, Approve, Write, Done}
+use Rattle.messages.specs.declared.marks.Form.{Form}
+use Rattle.messages.specs.declared.limits.Span.{Span}
+use Rattle.messages.specs.Kinds.{kind-number}
 
 infixl 20 _to_
 abbrev _to_ : ℕ → ℕ → Span

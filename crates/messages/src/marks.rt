@@ -1,5 +1,5 @@
 ghost use mathlib.Core.Path.{_≡_};
-ghost use Rattle.frames.specs.Marks.{form, kind-marked};
+ghost use Rattle.messages.specs.Marks.{form, kind-marked};
 use crate::kind::Kind;
 use crate::limits::LATER_VERSIONS;
 use crate::limits::NUMBERS;
@@ -10,18 +10,18 @@ use crate::limits::VERSIONS;
 
 // How the frames of one kind look: their mark, and the bounds of the fields that not all kinds use.
 #[derive(Clone, Copy)]
-pub(crate) struct Form {
-    pub(crate) kind: Kind,
-    pub(crate) kind_number: u8,
-    pub(crate) mark: u16,
-    pub(crate) numbers: Span,
-    pub(crate) versions: Span,
-    pub(crate) terms: Span,
-    pub(crate) has_row: bool,
+pub struct Form {
+    pub kind: Kind,
+    pub kind_number: u8,
+    pub mark: u16,
+    pub numbers: Span,
+    pub versions: Span,
+    pub terms: Span,
+    pub has_row: bool,
 }
 
 // One form for each kind, in the order of the kinds. A mark is two letters.
-pub(crate) const FORMS: [Form; 6] = [
+pub const FORMS: [Form; 6] = [
     Form {
         kind: Kind::Ask,
         kind_number: 1,
@@ -80,14 +80,14 @@ pub(crate) const FORMS: [Form; 6] = [
 
 impl Kind {
     // How the kind's frames look.
-    pub(crate) fn form(self) -> Form
+    pub fn form(self) -> Form
         ensures { λ r. ⌜ r ≡ form self ⌝ }
     {
         FORMS[self as usize]
     }
 
     // The kind with a mark.
-    pub(crate) fn marked(mark: u16) -> Option<Kind>
+    pub fn marked(mark: u16) -> Option<Kind>
         ensures { λ r. ⌜ r ≡ kind-marked mark ⌝ }
     {
         for form in FORMS {

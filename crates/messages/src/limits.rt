@@ -1,49 +1,49 @@
 ghost use mathlib.Core.Path.{_≡_};
 ghost use Rattle.rows.specs.Rows.{within};
-ghost use Rattle.frames.specs.Bounds.{lawful-body};
-ghost use Rattle.frames.specs.Messages.{MessageMade};
+ghost use Rattle.messages.specs.Bounds.{lawful-body};
+ghost use Rattle.messages.specs.Messages.{MessageMade};
 use crate::body::Body;
 use crate::message::Message;
 
-pub(crate) const LAST_NODE: u8 = 15;
+pub const LAST_NODE: u8 = 15;
 
-pub(crate) const LAST_FILE: u8 = 31;
+pub const LAST_FILE: u8 = 31;
 
 // The least and the greatest value of a field.
 #[derive(Clone, Copy)]
-pub(crate) struct Span {
-    low: u32,
-    high: u32,
+pub struct Span {
+    pub low: u32,
+    pub high: u32,
 }
 
 // a field that a kind doesn't use
-pub(crate) const UNUSED: Span = Span { low: 0, high: 0 };
+pub const UNUSED: Span = Span { low: 0, high: 0 };
 
-pub(crate) const NUMBERS: Span = Span {
+pub const NUMBERS: Span = Span {
     low: 1,
     high: 1_000_000,
 };
 
 // at most 15 stations have 1,000,000 writes each, and the first version is 1
-pub(crate) const VERSIONS: Span = Span {
+pub const VERSIONS: Span = Span {
     low: 1,
     high: 15_000_001,
 };
 
 // a recall names the version that the waiting write will make, so never the first
-pub(crate) const LATER_VERSIONS: Span = Span {
+pub const LATER_VERSIONS: Span = Span {
     low: 2,
     high: 15_000_001,
 };
 
-pub(crate) const TERMS: Span = Span {
+pub const TERMS: Span = Span {
     low: 0,
     high: 60_000,
 };
 
 impl Span {
     // Whether the value lies within the span.
-    pub(crate) fn holds(self, value: u32) -> bool
+    pub fn holds(self, value: u32) -> bool
         ensures { λ r. ⌜ r ≡ within (self .low) (self .high) value ⌝ }
     {
         self.low <= value && value <= self.high

@@ -2,8 +2,8 @@
 use mathlib.Core.Bool.{Bool, _&&_}
 use lib.Dec.{leb}
 use Rattle.rows.specs.Rows.{within}
-use Rattle.frames.specs.declared.body.Body.{Body}
-use Rattle.frames.specs.declared.body.Body.the-variants.{Ask, Grant, Recall, Approve, Write, Done}
+use Rattle.messages.specs.declared.body.Body.{Body}
+use Rattle.messages.specs.declared.body.Body.the-variants.{Ask, Grant, Recall, Approve, Write, Done}
 
 -- the first version is 1, so a version that a write will make, which is what a recall names, is at least 2
 abbrev pub lawful-body : Body → Bool

@@ -1,0 +1,4 @@
+pub mod Bounds
+pub mod Kinds
+pub mod Messages
+pub mod Marks
