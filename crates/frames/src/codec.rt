@@ -1,8 +1,8 @@
 ghost use mathlib.Core.Path.{_≡_};
 ghost use Rattle.std.specs.Orderings.{Decides};
-ghost use Rattle.std.specs.Results.{Cases, isOk};
+ghost use Rattle.std.specs.Results.{isOk};
 ghost use Rattle.std.specs.Vec.{made};
-ghost use Rattle.std.specs.declared.result.Result.the-variants.{Ok, Err};
+ghost use Rattle.std.specs.declared.result.Result.the-variants.{Ok};
 ghost use Rattle.messages.specs.declared.message.Message.{Message};
 ghost use Rattle.frames.specs.Accepts.{LawfulFrame};
 ghost use Rattle.frames.specs.Frames.{FrameRead, framed};
@@ -41,19 +41,4 @@ pub fn encode(message: Message) -> [u8; 32]
     ensures back { λ r. ⌜ FrameRead r (Ok message) ⌝ }
 {
     lay_out(Parts::of(message))
-}
-
-// What is encoded decodes to the same message.
-pub fn decode_back(message: Message) -> Result<Message, Fault>
-    ensures { λ r. ⌜ r ≡ Ok message ⌝ }
-{
-    decode(&encode(message))
-}
-
-// A frame that is accepted is encoded again to the same bytes; another is refused as the reader refuses it.
-pub fn encode_back(bytes: &[u8]) -> Result<[u8; 32], Fault>
-    ensures { λ r. ⌜ Cases r (λ again. again ≡ now (bytes .entry)) (λ fault. FrameRead (now (bytes .entry)) (Err fault)) ⌝ }
-{
-    let message = decode(bytes)?;
-    Ok(encode(message))
 }

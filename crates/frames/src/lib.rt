@@ -1,5 +1,4 @@
 // Frames: messages in 32 bytes.
-pub mod accepts;
 pub mod codec;
 mod fields;
 mod head;

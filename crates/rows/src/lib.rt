@@ -11,4 +11,3 @@ pub mod reading;
 pub mod row;
 pub mod tuning;
 pub mod words;
-pub mod worked;

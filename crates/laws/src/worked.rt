@@ -1,6 +1,6 @@
 ghost use mathlib.Core.Path.{_≡_};
 ghost use lib.ListN.{length};
-ghost use Rattle.rows.specs.Cases.{Every, table};
+ghost use Rattle.laws.specs.Cases.{Every, table};
 
 // How many worked cases there are; each holds of the rules.
 pub fn worked_cases() -> usize
