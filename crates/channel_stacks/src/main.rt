@@ -1,4 +1,6 @@
 // Sends the same messages through each named channel, and prints what takes give back: an ask's number, or - for none.
+#![tactic(auto)]
+
 use channels::channel::Channel;
 use channels::echo::Echo;
 use channels::filter::RepeatFilter;

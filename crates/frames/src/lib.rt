@@ -1,4 +1,6 @@
 // Frames: messages in 32 bytes.
+#![tactic(auto)]
+
 pub mod codec;
 mod fields;
 mod head;

@@ -1,6 +1,8 @@
 // Laws of the formats: both round trips of rows and of frames, which frames are accepted, and cases worked by hand.
 //
 // Each stands on the contract of a function that can be run.
+#![tactic(auto)]
+
 pub mod accepts;
 pub mod frame_trips;
 pub mod row_trips;

@@ -1,4 +1,6 @@
 // Lists the frames from standard input, one line for each.
+#![tactic(auto)]
+
 use frame_lists::list::list_frames;
 use std::io;
 use std::io::{BufWriter, Read, Write};

@@ -1,4 +1,6 @@
 // Checks a sheet of rows from standard input, and prints what it finds.
+#![tactic(auto)]
+
 use sheets::sheet::check_sheet;
 use std::io;
 use std::io::{BufWriter, Read, Write};
