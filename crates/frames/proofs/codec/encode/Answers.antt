@@ -6,5 +6,5 @@ use Rattle.frames.proofs.codec.encode.Goals as goal
 pub returns : goal.returns
 returns c =
     let message = c.args.message in
-    let exact : c.lay-out.result ≡ framed message = search rules in
+    let exact : c.lay_out.result ≡ framed message = search rules in
     record { exact = exact; back = subst (λ (bs : List ℕ). FrameRead bs (Ok message)) (sym exact) (read_framed message) }

@@ -4,8 +4,8 @@ use Rattle.channels.specs.Filter.{Filtered, nothing, again, fresh}
 use Rattle.channels.specs.Filters.{not_given}
 use Rattle.channels.proofs.filter.RepeatFilterChannel.take.Goals as goal
 
-pub returns-in-default : goal.returns-in-default
-returns-in-default g c = (None, search rules, nothing)
+pub returns-in_default : goal.returns-in_default
+returns-in_default g c = (None, search rules, nothing)
 
 pub returns-then-gave : goal.returns-then-gave
 returns-then-gave g c = (Some c.in-Some.message, c.in-Some.ensures, again c.in-Some.message (c.gave.ensures.0 c.if-gave.true))

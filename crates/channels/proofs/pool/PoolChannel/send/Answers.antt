@@ -3,8 +3,8 @@ use Rattle.channels.specs.Places.{stored}
 use Rattle.channels.specs.Kept.{frames_stored}
 use Rattle.channels.proofs.pool.PoolChannel.send.Goals as goal
 
-pub invariant-of-self : goal.invariant-of-self
-invariant-of-self c =
+pub invariant_of-self : goal.invariant_of-self
+invariant_of-self c =
     (omega arith, (omega arith, (frames_stored (vec_items c.args.self.now.frames) (vec_items c.store.new.frames) c.encode.result c.args.message c.store.ensures.items c.encode.ensures.exact c.args.self.now.lawful, tt)))
 
 pub returns : goal.returns

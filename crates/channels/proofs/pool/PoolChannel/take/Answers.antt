@@ -2,17 +2,17 @@ use Rattle.std.proofs.Common.{◌≡◌, ℕ, List, [], ◌∷◌, ◌++◌, vec
 use Rattle.channels.specs.Kept.{frames_left, last_is_frame}
 use Rattle.channels.proofs.pool.PoolChannel.take.Goals as goal
 
-pub invariant-of-self : goal.invariant-of-self
-invariant-of-self c =
+pub invariant_of-self : goal.invariant_of-self
+invariant_of-self c =
     (omega arith, (omega arith, (frames_left (vec_items c.args.self.now.frames) (vec_items c.newest.new.frames) c.newest.result c.newest.ensures.items c.args.self.now.lawful, tt)))
 
-pub unreachable-requires : goal.unreachable-requires
-unreachable-requires c =
-    let none = last_is_frame (vec_items c.args.self.now.frames) (vec_items c.newest.new.frames) c.in-ok-frame.frame c.in-ok-frame.ensures.items c.args.self.now.lawful in
+pub prove-unreachable-requires : goal.prove-unreachable-requires
+prove-unreachable-requires c =
+    let none = last_is_frame (vec_items c.args.self.now.frames) (vec_items c.newest.new.frames) c.in_ok-frame.frame c.in_ok-frame.ensures.items c.args.self.now.lawful in
     let some = c.in-Err.ensures.exact in
     let z : ◌≡◌ {A = ℕ} 0 1 = cc in
     omega arith
 
 pub returns : goal.returns
 returns c =
-    c.in-ok-frame.ensures.items ∙ ap (λ (bs : List ℕ). vec_items c.newest.new.frames ++ (bs ∷ [])) (sym c.in-Ok.ensures.back)
+    c.in_ok-frame.ensures.items ∙ ap (λ (bs : List ℕ). vec_items c.newest.new.frames ++ (bs ∷ [])) (sym c.in-Ok.ensures.back)
