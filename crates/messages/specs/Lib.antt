@@ -2,3 +2,6 @@ pub mod Bounds
 pub mod Kinds
 pub mod Messages
 pub mod Marks
+pub mod Equality
+pub mod Same
+pub mod EqualityLaws

@@ -1,6 +1,7 @@
 ghost use Rattle.std.specs.Prelude.{◌≡◌, Decides};
-ghost use Rattle.std.specs.Cmp.Rules.{comparing};
-ghost use Rattle.std.proofs.Common.{rules, arith};
+ghost use Rattle.std.specs.Cmp.{decided, partial_equiv_from_equiv};
+ghost use Rattle.messages.specs.Equality.{body_eq, message_eq};
+ghost use Rattle.messages.specs.EqualityLaws.{body_eq_decides, message_eq_decides};
 
 use crate::body::Body;
 use crate::message::Message;
@@ -42,11 +43,14 @@ fn same_row(a: Row, b: Row) -> bool
 }
 
 impl PartialEq for Body {
-    ghost equals = { λ a b r. Decides r (a ≡ b) };
+    ghost eq = { body_eq };
 
-    ghost laws = { Prim.search (comparing, rules) };
+    ghost laws = { partial_equiv_from_equiv (decided body_eq body_eq_decides) };
 
-    fn eq(&self, other: &Body) -> bool {
+    fn eq(&self, other: &Body) -> bool
+        ensures exact { result ≡ body_eq self.now other.now }
+        ensures decides { Decides result (self.now ≡ other.now) }
+    {
         match (*self, *other) {
             (Body::Ask { number: n }, Body::Ask { number: m }) => n == m,
             (
@@ -81,11 +85,14 @@ fn same_message(a: Message, b: Message) -> bool
 }
 
 impl PartialEq for Message {
-    ghost equals = { λ a b r. Decides r (a ≡ b) };
+    ghost eq = { message_eq };
 
-    ghost laws = { first_of (Prim.search (comparing, rules), Prim.grind (arith, Self.row.coded.inj)) };
+    ghost laws = { partial_equiv_from_equiv (decided message_eq message_eq_decides) };
 
-    fn eq(&self, other: &Message) -> bool {
+    fn eq(&self, other: &Message) -> bool
+        ensures exact { result ≡ message_eq self.now other.now }
+        ensures decides { Decides result (self.now ≡ other.now) }
+    {
         same_message(*self, *other)
     }
 }
