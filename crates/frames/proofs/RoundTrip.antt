@@ -17,7 +17,7 @@ use Rattle.frames.specs.Parts.{says, parts, body_of}
 use Rattle.frames.proofs.Fitting.{whole_length, fits_marked, no_fault}
 use Rattle.frames.proofs.Flat.{body_again, empty_row, lawful_uses}
 use Rattle.frames.proofs.OneMark.{mark_is, same_mark}
-use Rattle.messages.proofs.Same.{same_message}
+use Rattle.messages.specs.Same.{same_message}
 use Rattle.frames.proofs.Zeros.{zeros_are}
 
 mark_whole : (kind : Kind) → (form kind).mark / 256 % 256 * 256 + (form kind).mark % 256 ≡ (form kind).mark

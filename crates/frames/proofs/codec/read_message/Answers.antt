@@ -6,7 +6,11 @@ invariant_of-result c =
     let bs = c.args.bytes.now in
     let p = c.in_ok-parts.parts in
     let read = c.in_ok-parts.ensures in
-    (nodes_held bs p read.0 read.1, (file_held bs p read.0 read.1, (body_held bs p read.0 read.1 c.body.result c.body.ensures, tt)))
+    record {
+      nodes = nodes_held bs p read.0 read.1;
+      files = file_held bs p read.0 read.1;
+      lawful = body_held bs p read.0 read.1 c.body.result c.body.ensures;
+    }
 
 pub returns : goal.returns
 returns c =
