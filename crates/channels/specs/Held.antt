@@ -1,5 +1,5 @@
 -- Which messages a store holds after a send and after a take. Assumes nothing.
-use Rattle.std.specs.Prelude.{◌≡◌, ℕ, Bool, true, false, cond, ◌⊎◌, List, [], ◌∷◌, ◌++◌, length, Some, None, Option, MatchOption, nat_lt, refl}
+use Rattle.std.specs.Prelude.{◌≡◌, ℕ, Bool, true, false, cond, ◌⊎◌, List, [], ◌∷◌, ◌++◌, length, Some, None, Option, MatchOption, MatchBool, nat_lt, refl}
 use Rattle.std.proofs.Common.{inl, inr, arith}
 use mathlib.Core.List.Memᴰ
 use mathlib.Core.List.{Memᴰ}
@@ -28,11 +28,11 @@ module _ {X : Type 0} where
   rest_held xs ys x taken held = in_rest xs x (rw taken at held)
 
 -- a fact by cases on a test
-pub by_test : {P Q R : Type 0} (b : Bool) → cond b P Q → (P → R) → (Q → R) → R
+pub by_test : {P Q R : Type 0} (b : Bool) → MatchBool b P Q → (P → R) → (Q → R) → R
 by_test true h yes_then no_then = yes_then h
 by_test false h yes_then no_then = no_then h
 
 -- a fact by cases on what may be there
 pub by_some : {X : Type 0} (P : Type 0) (Q : X → Type 0) {R : Type 0} (o : Option X) → MatchOption o P Q → (o ≡ None → P → R) → ((x : X) → o ≡ Some x → Q x → R) → R
-by_some P Q None h none_then Some-then = none_then refl h
-by_some P Q (Some x) h none_then Some-then = Some-then x refl h
+by_some P Q None h none_then some_then = none_then refl h
+by_some P Q (Some x) h none_then some_then = some_then x refl h

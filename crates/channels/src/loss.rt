@@ -1,4 +1,4 @@
-ghost use Rattle.std.specs.Prelude.{◌≡◌, ◌+◌, ◌≤◌, if◌then◌else◌, nat_eq};
+ghost use Rattle.std.specs.Prelude.{◌≡◌, ◌+◌, ◌≤◌, nat_eq, MatchBool};
 ghost use Rattle.std.proofs.Common.{subst, inl, rules, arith};
 ghost use Rattle.channels.specs.Held.{by_test};
 
@@ -20,7 +20,7 @@ impl<C: Channel> Channel for Loss<C> {
 
     ghost begins = { λ l. (l.passed_on ≡ 0) × C.Channel.begins l.below };
 
-    ghost sends = { λ l m k. (if nat_eq l.passed_on 2 then ((k.passed_on ≡ 0) × (k.below ≡ l.below)) else ((k.passed_on ≡ l.passed_on + 1) × C.Channel.sends l.below m k.below)) };
+    ghost sends = { λ l m k. MatchBool (nat_eq l.passed_on 2) ((k.passed_on ≡ 0) × (k.below ≡ l.below)) ((k.passed_on ≡ l.passed_on + 1) × C.Channel.sends l.below m k.below) };
 
     ghost takes = { λ l r k. (k.passed_on ≡ l.passed_on) × C.Channel.takes l.below r k.below };
 

@@ -4,10 +4,14 @@ use Rattle.channels.proofs.pool.PoolChannel.take.Goals as goal
 
 pub invariant_of-self : goal.invariant_of-self
 invariant_of-self c =
-    (omega arith, (omega arith, (frames_left (vec_items c.args.self.now.frames) (vec_items c.newest.new.frames) c.newest.result c.newest.ensures.items c.args.self.now.lawful, tt)))
+    record {
+      room = omega arith;
+      few = omega arith;
+      lawful = frames_left (vec_items c.args.self.now.frames) (vec_items c.newest.new.frames) c.newest.result c.newest.ensures.items c.args.self.now.lawful;
+    }
 
-pub prove-unreachable-requires : goal.prove-unreachable-requires
-prove-unreachable-requires c =
+pub unreachable-requires : goal.unreachable-requires
+unreachable-requires c =
     let none = last_is_frame (vec_items c.args.self.now.frames) (vec_items c.newest.new.frames) c.in_ok-frame.frame c.in_ok-frame.ensures.items c.args.self.now.lawful in
     let some = c.in-Err.ensures.exact in
     let z : ◌≡◌ {A = ℕ} 0 1 = cc in
