@@ -1,6 +1,6 @@
 ghost use Rattle.std.specs.Prelude.{◌≡◌, Decides};
 ghost use Rattle.std.specs.Cmp.{decided, partial_equiv_from_equiv};
-ghost use Rattle.messages.specs.Equality.{body_eq, message_eq};
+ghost use Rattle.messages.specs.Equality.{pass_eq, tuning_eq, row_eq, body_eq, message_eq};
 ghost use Rattle.messages.specs.EqualityLaws.{body_eq_decides, message_eq_decides};
 
 use crate::body::Body;
@@ -12,19 +12,22 @@ use rows::tuning::TuningRow;
 // Equality is written out down to the rows: a derived `==` doesn't tell that two rows with equal fields are equal,
 // since their limits are invariants.
 fn same_pass(a: PassRow, b: PassRow) -> bool
-    ensures { Decides result (a ≡ b) }
+    ensures exact { result ≡ pass_eq a b }
+    ensures decides { Decides result (a ≡ b) }
 {
     a == b
 }
 
 fn same_tuning(a: TuningRow, b: TuningRow) -> bool
-    ensures { Decides result (a ≡ b) }
+    ensures exact { result ≡ tuning_eq a b }
+    ensures decides { Decides result (a ≡ b) }
 {
     a == b
 }
 
 fn same_row(a: Row, b: Row) -> bool
-    ensures { Decides result (a ≡ b) }
+    ensures exact { result ≡ row_eq a b }
+    ensures decides { Decides result (a ≡ b) }
 {
     match a {
         Row::Empty => match b {
