@@ -1,5 +1,5 @@
 -- What a repeat filter gives came from below. Assumes nothing.
-use Rattle.std.specs.Prelude.{◌≡◌, Bool, true, false, List, Some, None, Decides, Option, refl}
+use Rattle.std.specs.Prelude.{◌≡◌, Bool, false, List, Some, Decides, Option, refl}
 use Rattle.std.proofs.Common.{arith}
 use Rattle.std.specs.List.{ContainsAt as Has}
 use Rattle.std.proofs.lemmas.Bool.Decides.{nat_tests}

@@ -9,7 +9,7 @@ use Rattle.messages.specs.declared.kind.Kind.{Kind}
 use Rattle.messages.specs.declared.kind.Kind.TheVariants.{Ask, Grant, Recall, Approve, Write, Done}
 use Rattle.messages.specs.declared.message.Message.{Message}
 use Rattle.frames.specs.declared.parts.Parts.{Parts}
-use Rattle.frames.specs.Accepts.{mark, Zero, Uses, Fits}
+use Rattle.frames.specs.Accepts.{Zero, Uses, Fits}
 use Rattle.frames.specs.Frames.{frame_fault, FrameHas, FrameIs, FrameRead, laid_out, framed}
 use Rattle.messages.specs.Kinds.{kind_of}
 use Rattle.messages.specs.Marks.{form}

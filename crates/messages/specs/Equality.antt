@@ -1,5 +1,5 @@
 -- What `==` answers on rows, bodies and messages, and that it tells whether they are equal. Assumes nothing.
-use Rattle.std.specs.Prelude.{◌≡◌, ℕ, Bool, true, false, ◌&&◌, ◌==◌}
+use Rattle.std.specs.Prelude.{Bool, true, false, ◌&&◌, ◌==◌}
 use Rattle.std.specs.Ordering.{int_eq}
 use Rattle.rows.specs.declared.pass.PassRow.{PassRow}
 use Rattle.rows.specs.declared.tuning.TuningRow.{TuningRow}

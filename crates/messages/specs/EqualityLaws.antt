@@ -1,5 +1,5 @@
 -- `==` tells whether rows, bodies and messages are equal: each is told by its fields. Assumes nothing.
-use Rattle.std.proofs.Common.{◌≡◌, ℕ, Bool, true, false, ◌&&◌, sym, refl, ap}
+use Rattle.std.proofs.Common.{◌≡◌, Bool, false, ◌&&◌, refl, ap}
 use Rattle.std.specs.Bool.{Decides}
 use Rattle.std.specs.Cmp.{unsigned_Decides, signed_Decides}
 use Rattle.std.proofs.lemmas.Bool.Decides.{Decides-and}

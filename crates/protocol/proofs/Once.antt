@@ -5,7 +5,7 @@ use Rattle.protocol.specs.Lookups.{In}
 use Rattle.protocol.specs.Net.{Net}
 use Rattle.protocol.specs.Rules.{sound}
 use Rattle.protocol.specs.State.{State}
-use Rattle.protocol.specs.Events.{Event, History, opened, granted, fetched, asked, accepted, effect, reported, noted, At, now, before}
+use Rattle.protocol.specs.Events.{Event, History, opened, granted, fetched, accepted, effect, reported, noted, At, now, before}
 use Rattle.protocol.specs.Steps.{told}
 use Rattle.protocol.specs.Steps.{Step, note, passes, posts, restarts, opens, primary_grants, relay_grants, takes, yields, hears, submits, accepts, effects, ends}
 use Rattle.protocol.specs.Runs.{Run, new, more, Happened}

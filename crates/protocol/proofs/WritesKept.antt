@@ -11,7 +11,7 @@ use Rattle.protocol.specs.Events.{History, asked, accepted, effect}
 use Rattle.protocol.specs.Writing.{Submits, Accepts, Effects}
 use Rattle.protocol.specs.Steps.{Step, note}
 use Rattle.protocol.specs.Story.{Effected}
-use Rattle.protocol.proofs.Lookups.{clash, was, in_rest, left_without}
+use Rattle.protocol.proofs.Lookups.{clash, in_rest, left_without}
 use Rattle.protocol.proofs.Carries.{sent_other}
 use Rattle.protocol.proofs.CalmSafe.{drawn_grows}
 use Rattle.protocol.proofs.Entries.{effects_left}

@@ -1,5 +1,5 @@
 -- What is written reads back the same, and what is read was written so. Assumes nothing.
-use Rattle.std.proofs.Common.{◌≡◌, ℕ, ◌+◌, ◌*◌, ◌/◌, ◌%◌, ◌^◌, ◌<◌, ◌≤◌, Bool, true, false, ◌&&◌, eqb, leb, List, [], ◌∷◌, length, get_or, drop, ℤ, pos, negsuc, ◌≤ℤ◌, IfOk, Some, None, Ok, Err, Option, Result, sym, refl, ap, ◌∙◌, subst, arith, w32, SFits, to_z, of_z, eq-eqb}
+use Rattle.std.proofs.Common.{◌≡◌, ℕ, ◌+◌, ◌*◌, ◌/◌, ◌%◌, ◌^◌, ◌<◌, ◌≤◌, Bool, true, false, ◌&&◌, eqb, leb, List, length, get_or, drop, ℤ, pos, negsuc, ◌≤ℤ◌, IfOk, None, Ok, Err, Option, Result, sym, refl, ap, ◌∙◌, subst, arith, w32, SFits, to_z, of_z, eq-eqb}
 use native.Mathlib.Nat.{div-div-eq-div-mul}
 use lib.Lanes.{pick_l}
 use lib.Signed.{le_z}
@@ -14,7 +14,7 @@ use Rattle.rows.specs.declared.tuning.TuningRow.{TuningRow}
 use Rattle.rows.specs.declared.row.Row.{Row}
 use Rattle.rows.specs.declared.row.Row.TheVariants.{Empty, Pass, Tuning}
 use Rattle.rows.specs.Bytes.{be2, be4, first_nonzero}
-use Rattle.rows.specs.Rows.{field, within, pass_wrong, tuning_wrong, PassIs, TuningIs, long_enough, FieldsRead, RowRead, RowIs, fields_wrong, row_wrong, written}
+use Rattle.rows.specs.Rows.{field, within, pass_wrong, tuning_wrong, PassIs, TuningIs, long_enough, FieldsRead, RowRead, RowIs, written}
 use Rattle.rows.proofs.Nonzero.{zero_from}
 use Rattle.rows.proofs.Same.{same_pass, same_tuning}
 

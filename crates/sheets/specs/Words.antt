@@ -1,5 +1,5 @@
 -- The text of a line, as its bytes. Assumes nothing.
-use Rattle.std.specs.Prelude.{ℕ, List, ◌++◌, Some, None, codes, decimal, Option}
+use Rattle.std.specs.Prelude.{ℕ, List, ◌++◌, Some, None, codes, decimal}
 use Rattle.faults.specs.Refusals.{told}
 use Rattle.rows.specs.Words.{pass_words, tuning_words}
 use Rattle.sheets.specs.declared.line.Finding.{Finding}

@@ -1,5 +1,4 @@
-use Rattle.std.proofs.Common.{◌≡◌, ◌≤◌, length, vec_items, vec_capacity}
-use Rattle.sheets.specs.Report.{LinesAre, over, faulty, untuned}
+use Rattle.std.proofs.Common.{◌≤◌, vec_items, vec_capacity}
 use Rattle.sheets.proofs.Lines.{Counted}
 use Rattle.sheets.proofs.sheet.check_sheet.Given as goal
 

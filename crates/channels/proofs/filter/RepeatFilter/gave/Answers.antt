@@ -1,4 +1,4 @@
-use Rattle.std.proofs.Common.{List, vec_items, Decides, subst}
+use Rattle.std.proofs.Common.{List, Decides, subst}
 use Rattle.std.specs.List.{ContainsAt as Has}
 use Rattle.std.proofs.lemmas.List.Elements.{contains_decides}
 use Rattle.messages.specs.declared.message.Message.{Message}

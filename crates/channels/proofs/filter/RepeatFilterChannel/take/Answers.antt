@@ -1,4 +1,4 @@
-use Rattle.std.proofs.Common.{◌≡◌, List, Some, None, vec_items, sym, subst, rules}
+use Rattle.std.proofs.Common.{List, Some, None, vec_items, sym, subst, rules}
 use Rattle.messages.specs.declared.message.Message.{Message}
 use Rattle.channels.specs.Filter.{Filtered, nothing, again, fresh}
 use Rattle.channels.specs.Filters.{not_given}

@@ -1,5 +1,5 @@
-use Rattle.std.proofs.Common.{◌≡◌, ℕ, List, length, sym, subst}
-use Rattle.rows.specs.Rows.{FieldsRead, RowRead}
+use Rattle.std.proofs.Common.{◌≡◌, ℕ, List, length, subst}
+use Rattle.rows.specs.Rows.{FieldsRead}
 use Rattle.rows.proofs.RoundTrip.{sixteen_long, fields_answer, made_back, read_forth}
 use Rattle.rows.proofs.row.Row.from_bytes.Goals as goal
 
