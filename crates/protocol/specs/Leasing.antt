@@ -53,7 +53,7 @@ pub record PrimaryGrants {Row : Type 0} (rules : Rules) (n : Net) (s s' : State 
   pub row_is : row ≡ s.row file
   pub version_is : version ≡ s.version file
 
--- A relay grants from a copy that is live at its reading, for a term that ends by the copy's run_out.
+-- A relay grants from a copy that is live at its reading, for a term that ends by the copy's run-out.
 pub record RelayGrants {Row : Type 0} (rules : Rules) (n : Net) (s s' : State Row) (station file number reading : ℕ) (row : Row) (version term until : ℕ) :
     Type 0 where
   pub grants : Grants rules n s s' station file number reading row version term

@@ -32,7 +32,7 @@ number_of entries_done = 6
 
 -- What the actions leave open, so that altered rules can be told from the protocol's.
 pub record Rules : Type 0 where
-  -- what a run_out leaves off, given the drift bound of the station and that of its parent, so that a copy is dead before its entry is over
+  -- what a run-out leaves off, given the drift bound of the station and that of its parent, so that a copy is dead before its entry is over
   pub margin : ℕ → ℕ → ℕ
   -- an entry after a grant, given the entry before it and the end of the new term; it must hold the copies of both grants
   pub joined : ℕ → ℕ → ℕ
@@ -65,6 +65,6 @@ abbrev pub Kept : Bool → Type 0 → Type 0
 Kept true says = says
 Kept false says = Unit {0}
 
--- The run_out of a copy: the ask's reading and the term, less the margin of the two clocks between which it was agreed.
+-- The run-out of a copy: the ask's reading and the term, less the margin of the two clocks between which it was agreed.
 abbrev pub run_out : Rules → Net → ℕ → ℕ → ℕ → ℕ
 run_out rules n station reading term = (reading + term) - rules.margin (n.bound station) (n.bound (n.parent station))

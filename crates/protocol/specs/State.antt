@@ -5,7 +5,7 @@ use Rattle.protocol.specs.Lookups.{In}
 use Rattle.protocol.specs.Net.{Net}
 use Rattle.protocol.specs.Messages.{Message}
 
--- What a copy holds; it is live at a reading below its run_out.
+-- What a copy holds; it is live at a reading below its run-out.
 pub data Lease (Row : Type 0) : Type 0 where
   lease : (row : Row) (version run_out : ℕ) → Lease Row
 
