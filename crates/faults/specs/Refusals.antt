@@ -32,9 +32,20 @@ layer_number Scenario = 1
 layer_number Format = 2
 layer_number Network = 3
 
+-- a fault that the reading of a row or a frame finds at a byte
+abbrev pub of_format : Refusal → ℕ → Fault
+of_format refusal place = record { refusal = refusal; place = place; layer = Format }
+
 -- a row that is unlawful from a byte on
 abbrev pub unlawful_at : ℕ → Fault
-unlawful_at place = record { refusal = UnlawfulRow; place = place; layer = Format }
+unlawful_at place = of_format UnlawfulRow place
+
+-- a frame of another length or mark, and one whose field at a byte is wrong
+abbrev pub unknown_frame : Fault
+unknown_frame = of_format UnknownFrame 0
+
+abbrev pub wrong_at : ℕ → Fault
+wrong_at place = of_format FrameField place
 
 -- a fault in words, as the bytes of its text
 abbrev pub told : Fault → List ℕ

@@ -2,10 +2,10 @@ ghost use Rattle.std.specs.Prelude.{◌≡◌};
 ghost use Rattle.faults.specs.Refusals.{number_of};
 
 // Why a call or an input is declined. The cases stand in the order of their numbers: where two fit, the upper answers.
-#[derive(Clone, Copy, PartialEq)]
+#[derive(Clone, Copy, Debug, PartialEq, Eq)]
 pub enum Refusal {
     // the tree, the files or a header's field is out of bounds
-    Layout,
+    Layout = 1,
     // the lent outbox has fewer than 256 places
     OutboxTooSmall,
     // no such node, or the primary where a station is needed
@@ -44,11 +44,11 @@ pub enum Refusal {
     HistoryFull,
 }
 
-impl Refusal {
-    // The number that the refusal is told by.
-    pub fn number(self) -> u8
-        ensures { result ≡ number_of self }
-    {
-        self as u8 + 1
+// The number that a refusal is told by.
+impl From<Refusal> for u8 {
+    ghost from_gives = { λ refusal number. number ≡ number_of refusal };
+
+    fn from(refusal: Refusal) -> u8 {
+        refusal as u8
     }
 }
