@@ -1,4 +1,4 @@
-ghost use Rattle.std.specs.Prelude.{◌≡◌, Some};
+ghost use Rattle.std.specs.Prelude.{◌≡◌, true, false, Some, MatchResult};
 ghost use Rattle.faults.specs.Refusals.{of_format, unlawful_at, unknown_frame, wrong_at, told};
 
 use crate::layer::Layer;
@@ -45,6 +45,13 @@ impl Fault {
         ensures { result ≡ wrong_at place }
     {
         Fault::of_format(Refusal::FrameField, place)
+    }
+
+    // This fault, unless the test holds.
+    pub fn unless(self, holds: bool) -> Result<(), Fault>
+        ensures { MatchResult result (λ _. holds ≡ true) (λ fault. (holds ≡ false) × (fault ≡ self)) }
+    {
+        if holds { Ok(()) } else { Err(self) }
     }
 }
 

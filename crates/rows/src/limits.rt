@@ -22,18 +22,10 @@ impl PassRow {
     pub fn new(satellite: u16, antenna: u8, start: u32, seconds: u16) -> Result<PassRow, Fault>
         ensures { PassMade satellite antenna start seconds result }
     {
-        if satellite == 0 {
-            return Err(Fault::unlawful(1));
-        }
-        if antenna == 0 || antenna > ANTENNAS {
-            return Err(Fault::unlawful(3));
-        }
-        if start >= WEEK_SECONDS {
-            return Err(Fault::unlawful(4));
-        }
-        if seconds == 0 || seconds > LONGEST_PASS {
-            return Err(Fault::unlawful(8));
-        }
+        Fault::unlawful(1).unless(satellite != 0)?;
+        Fault::unlawful(3).unless((1..=ANTENNAS).contains(&antenna))?;
+        Fault::unlawful(4).unless(start < WEEK_SECONDS)?;
+        Fault::unlawful(8).unless((1..=LONGEST_PASS).contains(&seconds))?;
         Ok(PassRow {
             satellite,
             antenna,
@@ -48,15 +40,9 @@ impl TuningRow {
     pub fn new(satellite: u16, downlink: u32, offset: i32) -> Result<TuningRow, Fault>
         ensures { TuningMade satellite downlink offset result }
     {
-        if satellite == 0 {
-            return Err(Fault::unlawful(1));
-        }
-        if downlink < LOWEST_DOWNLINK || downlink > HIGHEST_DOWNLINK {
-            return Err(Fault::unlawful(3));
-        }
-        if offset < -WIDEST_OFFSET || offset > WIDEST_OFFSET {
-            return Err(Fault::unlawful(7));
-        }
+        Fault::unlawful(1).unless(satellite != 0)?;
+        Fault::unlawful(3).unless((LOWEST_DOWNLINK..=HIGHEST_DOWNLINK).contains(&downlink))?;
+        Fault::unlawful(7).unless((-WIDEST_OFFSET..=WIDEST_OFFSET).contains(&offset))?;
         Ok(TuningRow {
             satellite,
             downlink,
