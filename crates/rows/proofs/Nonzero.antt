@@ -1,21 +1,25 @@
--- How a walk finds the first byte that isn't zero, and what it means to find none. Assumes nothing.
-use Rattle.std.proofs.Common.{◌≡◌, ℕ, zero, suc, ◌+◌, ◌<◌, ◌≤◌, Bool, cond, List, [], ◌∷◌, length, get_or, drop, Some, None, Option, sym, refl, ap, ◌∙◌, arith, get_or-drop, eq-eqb, ne_eqb}
-use Rattle.std.proofs.lemmas.List.{at_drop_more, drop_all}
+-- Where the first byte that isn't zero stands, and what it means to find none. Assumes nothing.
+use Rattle.std.proofs.Common.{◌≡◌, ℕ, zero, suc, ◌+◌, Bool, true, false, cond, not, eqb, List, [], ◌∷◌, get_or, drop, Some, None, Option, sym, refl, ap, ◌∙◌, arith, get_or-drop}
+use Rattle.std.specs.Option.{option_map}
 use Rattle.std.proofs.lemmas.Bool.Decides.{nat_tests}
 use Rattle.rows.specs.Bytes.{first_nonzero}
 
--- what the byte at i leaves to say
-abbrev step : Bool → List ℕ → ℕ → Option ℕ
-step zero_here bs i = cond zero_here (first_nonzero (i + 1) (drop (i + 1) bs)) (Some i)
+-- bytes that begin n places later
+later : (n i : ℕ) (bs : List ℕ) → first_nonzero (n + i) bs ≡ option_map (λ place. n + place) (first_nonzero i bs)
+later n i [] = refl
+later n i (b ∷ bs) =
+    let next : n + i + 1 ≡ n + (i + 1) = omega arith in
+    here (not (eqb b 0)) (ap (λ k. first_nonzero k bs) next ∙ later n (i + 1) bs)
+    where
+  here : (found : Bool) → first_nonzero (n + i + 1) bs ≡ option_map (λ place. n + place) (first_nonzero (i + 1) bs) → cond found (Some (n + i)) (first_nonzero (n + i + 1) bs) ≡ option_map (λ place. n + place) (cond found (Some i) (first_nonzero (i + 1) bs))
+  here true rest = refl
+  here false rest = rest
 
-pub zero_passes : (bs : List ℕ) (i : ℕ) → i < length bs → get_or bs i 0 ≡ 0 → first_nonzero i (drop i bs) ≡ first_nonzero (i + 1) (drop (i + 1) bs)
-zero_passes bs i h e = at_drop_more (first_nonzero i) bs i 0 h ∙ ap (λ b. step b bs i) (eq-eqb (get_or bs i 0) 0 e)
-
-pub nonzero_stops : (bs : List ℕ) (i : ℕ) → i < length bs → (get_or bs i 0 ≡ 0 → ⊥) → first_nonzero i (drop i bs) ≡ Some i
-nonzero_stops bs i h e = at_drop_more (first_nonzero i) bs i 0 h ∙ ap (λ b. step b bs i) (ne_eqb (get_or bs i 0) 0 e)
-
-pub none_past_end : (bs : List ℕ) (i : ℕ) → length bs ≤ i → first_nonzero i (drop i bs) ≡ None
-none_past_end bs i h = ap (first_nonzero i) (drop_all i bs h)
+-- the place that is found from n on, by the place that is found from 0 on
+pub found : (n : ℕ) (bs rest : List ℕ) (here place : Option ℕ) → rest ≡ bs → here ≡ first_nonzero 0 rest → here ≡ place → first_nonzero n bs ≡ option_map (λ place. n + place) place
+found n bs rest here place same told is =
+    let none : n ≡ n + 0 = omega arith in
+    ap (λ k. first_nonzero k bs) none ∙ later n 0 bs ∙ ap (λ xs. option_map (λ place. n + place) (first_nonzero 0 xs)) (sym same) ∙ ap (option_map (λ place. n + place)) (sym told ∙ is)
 
 all_zero : (i : ℕ) (bs : List ℕ) → first_nonzero i bs ≡ None → (k : ℕ) → get_or bs k 0 ≡ 0
 all_zero i [] e k = refl

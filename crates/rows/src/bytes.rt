@@ -1,32 +1,24 @@
-ghost use Rattle.std.specs.Prelude.{◌≡◌, ◌+◌, ◌<◌, ◌≤◌, drop, IfSome};
-ghost use Rattle.rows.specs.Bytes.{be2, be4, first_nonzero};
+ghost use Rattle.std.specs.Prelude.{◌≡◌, ◌<◌, ◌≤◌, ⊤, length, drop, IfSome};
+ghost use Rattle.rows.specs.Bytes.{first_nonzero};
+ghost use Rattle.rows.specs.Rows.{Answers};
 
-// The big-endian number in two bytes from `at` on.
-pub(crate) fn two_bytes(bytes: &[u8; 16], at: usize) -> u16
-    requires { at + 1 < 16 }
-    ensures { result ≡ be2 bytes.now at }
+use faults::fault::Fault;
+
+fn first_nonzero(bytes: &[u8]) -> Option<usize>
+    ensures first { result ≡ first_nonzero 0 bytes.now }
+    ensures within { IfSome result (λ place. place < length bytes.now) }
 {
-    u16::from_be_bytes([bytes[at], bytes[at + 1]])
+    bytes.iter().position(|&byte| byte != 0)
 }
 
-// The big-endian number in four bytes from `at` on.
-pub(crate) fn four_bytes(bytes: &[u8; 16], at: usize) -> u32
-    requires { at + 3 < 16 }
-    ensures { result ≡ be4 bytes.now at }
-{
-    u32::from_be_bytes([bytes[at], bytes[at + 1], bytes[at + 2], bytes[at + 3]])
-}
-
-// The first place from `from` on whose byte is not zero.
-pub(crate) fn nonzero_from(bytes: &[u8; 16], from: usize) -> Option<usize>
+// The bytes from `from` on must be zero; the first that isn't is told.
+pub(crate) fn zero_from(bytes: &[u8; 16], from: usize) -> Result<(), Fault>
     requires { from ≤ 16 }
-    ensures first { result ≡ first_nonzero from (drop from bytes.now) }
-    ensures bound { IfSome result (λ p. p < 16) }
+    ensures { Answers (first_nonzero from (drop from bytes.now)) (λ _. ⊤) result }
 {
-    for i in from..16 {
-        if bytes[i] != 0 {
-            return Some(i);
-        }
+    let (_, rest) = bytes.split_at(from);
+    match first_nonzero(rest) {
+        None => Ok(()),
+        Some(place) => Err(Fault::unlawful(from + place)),
     }
-    None
 }

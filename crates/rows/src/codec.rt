@@ -2,7 +2,7 @@ ghost use Rattle.std.specs.Prelude.{◌≡◌, IfOk, Ok};
 ghost use Rattle.rows.specs.declared.row.Row.{Row};
 ghost use Rattle.rows.specs.Rows.{Held, FieldsRead, RowRead, written};
 
-use crate::bytes::nonzero_from;
+use crate::bytes::zero_from;
 use crate::kind::RowKind;
 use crate::pass::PassRow;
 use crate::row::{ROW_BYTES, Row};
@@ -13,10 +13,7 @@ use faults::fault::Fault;
 fn sixteen(bytes: &[u8]) -> Result<&[u8; 16], Fault>
     ensures { Held bytes.now result }
 {
-    match <&[u8; 16]>::try_from(bytes) {
-        Ok(all) => Ok(all),
-        Err(_) => Err(Fault::unlawful(bytes.len().min(ROW_BYTES))),
-    }
+    <&[u8; 16]>::try_from(bytes).map_err(|_| Fault::unlawful(bytes.len().min(ROW_BYTES)))
 }
 
 // The row that 16 bytes hold, by the kind in the first.
@@ -24,10 +21,10 @@ fn by_kind(bytes: &[u8; 16]) -> Result<Row, Fault>
     ensures { FieldsRead bytes.now result }
 {
     match bytes[0] {
-        0 => match nonzero_from(bytes, 1) {
-            None => Ok(Row::Empty),
-            Some(place) => Err(Fault::unlawful(place)),
-        },
+        0 => {
+            zero_from(bytes, 1)?;
+            Ok(Row::Empty)
+        }
         PassRow::KIND => Ok(Row::Pass(PassRow::from_bytes(bytes)?)),
         TuningRow::KIND => Ok(Row::Tuning(TuningRow::from_bytes(bytes)?)),
         _ => Err(Fault::unlawful(0)),

@@ -1,4 +1,4 @@
-ghost use Rattle.std.specs.Prelude.{◌≡◌, ℕ, List, Result};
+ghost use Rattle.std.specs.Prelude.{ℕ, List, Result};
 ghost use Rattle.faults.specs.declared.fault.Fault.{Fault};
 
 use faults::fault::Fault;
@@ -7,14 +7,10 @@ use faults::fault::Fault;
 pub trait RowKind: Sized {
     const KIND: u8;
 
-    // the kind's number, for clauses
-    ghost number: { ℕ };
+    ghost KIND: { ℕ };
 
     // what reading 16 bytes as a row of this kind may answer
     ghost reads: { List ℕ → Result Self Fault → Type 0 };
-
-    fn kind_number() -> u8
-        ensures { result ≡ number };
 
     // The row of this kind that the bytes hold, or the first field that is wrong; the kind is the first field.
     fn from_bytes(bytes: &[u8; 16]) -> Result<Self, Fault>

@@ -1,6 +1,6 @@
 ghost use Rattle.rows.specs.Rows.{PassRead, TuningRead};
 
-use crate::bytes::{four_bytes, nonzero_from, two_bytes};
+use crate::bytes::zero_from;
 use crate::kind::RowKind;
 use crate::pass::PassRow;
 use crate::tuning::TuningRow;
@@ -9,51 +9,40 @@ use faults::fault::Fault;
 impl RowKind for PassRow {
     const KIND: u8 = 1;
 
-    ghost number = { 1 };
+    ghost KIND = { 1 };
 
     ghost reads = { PassRead };
 
-    fn kind_number() -> u8 {
-        Self::KIND
-    }
-
     fn from_bytes(bytes: &[u8; 16]) -> Result<PassRow, Fault> {
-        if bytes[0] != Self::KIND {
-            return Err(Fault::unlawful(0));
-        }
+        let [kind, s0, s1, antenna, t0, t1, t2, t3, l0, l1, ..] = *bytes;
+        Fault::unlawful(0).unless(kind == Self::KIND)?;
         let row = PassRow::new(
-            two_bytes(bytes, 1),
-            bytes[3],
-            four_bytes(bytes, 4),
-            two_bytes(bytes, 8),
+            u16::from_be_bytes([s0, s1]),
+            antenna,
+            u32::from_be_bytes([t0, t1, t2, t3]),
+            u16::from_be_bytes([l0, l1]),
         )?;
-        match nonzero_from(bytes, 10) {
-            None => Ok(row),
-            Some(place) => Err(Fault::unlawful(place)),
-        }
+        zero_from(bytes, 10)?;
+        Ok(row)
     }
 }
 
 impl RowKind for TuningRow {
     const KIND: u8 = 2;
 
-    ghost number = { 2 };
+    ghost KIND = { 2 };
 
     ghost reads = { TuningRead };
 
-    fn kind_number() -> u8 {
-        Self::KIND
-    }
-
     fn from_bytes(bytes: &[u8; 16]) -> Result<TuningRow, Fault> {
-        if bytes[0] != Self::KIND {
-            return Err(Fault::unlawful(0));
-        }
-        let offset = four_bytes(bytes, 7).cast_signed();
-        let row = TuningRow::new(two_bytes(bytes, 1), four_bytes(bytes, 3), offset)?;
-        match nonzero_from(bytes, 11) {
-            None => Ok(row),
-            Some(place) => Err(Fault::unlawful(place)),
-        }
+        let [kind, s0, s1, d0, d1, d2, d3, o0, o1, o2, o3, ..] = *bytes;
+        Fault::unlawful(0).unless(kind == Self::KIND)?;
+        let row = TuningRow::new(
+            u16::from_be_bytes([s0, s1]),
+            u32::from_be_bytes([d0, d1, d2, d3]),
+            i32::from_be_bytes([o0, o1, o2, o3]),
+        )?;
+        zero_from(bytes, 11)?;
+        Ok(row)
     }
 }
