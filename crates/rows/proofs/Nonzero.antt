@@ -10,10 +10,10 @@ later n i [] = refl
 later n i (b ∷ bs) =
     let next : n + i + 1 ≡ n + (i + 1) = omega arith in
     here (not (eqb b 0)) (ap (λ k. first_nonzero k bs) next ∙ later n (i + 1) bs)
-    where
-  here : (found : Bool) → first_nonzero (n + i + 1) bs ≡ option_map (λ place. n + place) (first_nonzero (i + 1) bs) → cond found (Some (n + i)) (first_nonzero (n + i + 1) bs) ≡ option_map (λ place. n + place) (cond found (Some i) (first_nonzero (i + 1) bs))
-  here true rest = refl
-  here false rest = rest
+  where
+    here : (found : Bool) → first_nonzero (n + i + 1) bs ≡ option_map (λ place. n + place) (first_nonzero (i + 1) bs) → cond found (Some (n + i)) (first_nonzero (n + i + 1) bs) ≡ option_map (λ place. n + place) (cond found (Some i) (first_nonzero (i + 1) bs))
+    here true rest = refl
+    here false rest = rest
 
 -- the place that is found from n on, by the place that is found from 0 on
 pub found : (n : ℕ) (bs rest : List ℕ) (here place : Option ℕ) → rest ≡ bs → here ≡ first_nonzero 0 rest → here ≡ place → first_nonzero n bs ≡ option_map (λ place. n + place) place
