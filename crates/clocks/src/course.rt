@@ -13,9 +13,10 @@ pub(crate) struct Course {
 }
 
 impl Course {
+    ghost use Rattle.clocks.specs.Course.{Begins, Passes};
+
     pub(crate) fn new(drift: DriftBound) -> Course
-        ensures time { result.time ≡ 1000 }
-        ensures drift { result.drift ≡ drift }
+        ensures { Begins drift.ticks result }
     {
         Course {
             time: FIRST_TICK,
@@ -26,7 +27,7 @@ impl Course {
     // Lets time pass, unless that would lead past the last tick.
     pub(crate) fn pass(&mut self, ticks: u32) -> bool
         ensures test { result ≡ nat_le (self.old.time + ticks) 1000000000 }
-        ensures after { MatchBool result ((self.new.time ≡ self.old.time + ticks) × (self.new.drift ≡ self.old.drift)) (self.new ≡ self.old) }
+        ensures after { MatchBool result (Passes self.old ticks self.new) (self.new ≡ self.old) }
     {
         let fits = ticks <= LAST_TICK - self.time;
         if fits {

@@ -1,5 +1,6 @@
-ghost use Rattle.std.specs.Prelude.{◌≡◌, ◌+◌, ◌≤◌};
-ghost use Rattle.std.proofs.Common.{rules, arith};
+ghost use Rattle.std.specs.Prelude.{◌≡◌};
+ghost use Rattle.std.proofs.Common.{rules};
+ghost use Rattle.clocks.specs.Course.{Begins, Passes};
 
 use crate::clock::ClockBank;
 use crate::course::Course;
@@ -16,11 +17,11 @@ impl ClockBank for Exact {
 
     ghost bound = { λ s _. s.course.drift.ticks };
 
-    ghost begins = { λ e s. (s.course.time ≡ 1000) × (s.course.drift.ticks ≡ e) };
+    ghost begins = { λ e s. Begins e s.course };
 
     ghost reads = { λ s _ r t. (r ≡ s.course.time) × (t ≡ s) };
 
-    ghost passes = { λ s d t. (t.course.time ≡ s.course.time + d) × (t.course.drift ≡ s.course.drift) };
+    ghost passes = { λ s d t. Passes s.course d t.course };
 
     ghost begun = { Prim.search rules };
 

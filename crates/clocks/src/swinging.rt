@@ -1,5 +1,6 @@
-ghost use Rattle.std.specs.Prelude.{◌≡◌, ◌+◌, ◌-◌, ◌≤◌, true, not, if◌then◌else◌};
-ghost use Rattle.std.proofs.Common.{rules, arith};
+ghost use Rattle.std.specs.Prelude.{◌≡◌, ◌+◌, ◌-◌, true, not, if◌then◌else◌};
+ghost use Rattle.std.proofs.Common.{rules};
+ghost use Rattle.clocks.specs.Course.{Begins, Passes};
 
 use crate::clock::ClockBank;
 use crate::course::Course;
@@ -17,11 +18,11 @@ impl ClockBank for Swinging {
 
     ghost bound = { λ s _. s.course.drift.ticks };
 
-    ghost begins = { λ e s. (s.course.time ≡ 1000) × (s.course.drift.ticks ≡ e) × (s.ahead ≡ true) };
+    ghost begins = { λ e s. Begins e s.course × (s.ahead ≡ true) };
 
     ghost reads = { λ s _ r t. (r ≡ (if s.ahead then s.course.time + s.course.drift.ticks else s.course.time - s.course.drift.ticks)) × (t.course ≡ s.course) × (t.ahead ≡ not s.ahead) };
 
-    ghost passes = { λ s d t. (t.course.time ≡ s.course.time + d) × (t.course.drift ≡ s.course.drift) × (t.ahead ≡ s.ahead) };
+    ghost passes = { λ s d t. Passes s.course d t.course × (t.ahead ≡ s.ahead) };
 
     ghost begun = { Prim.search rules };
 

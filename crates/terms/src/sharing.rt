@@ -1,5 +1,5 @@
-ghost use Rattle.std.specs.Prelude.{◌≡◌, ◌+◌, ◌/◌, ◌≤◌, true};
-ghost use Rattle.std.proofs.Common.{rules, arith};
+ghost use Rattle.std.specs.Prelude.{◌≡◌, ◌+◌, ◌/◌, true};
+ghost use Rattle.std.proofs.Common.{rules};
 
 use crate::longest::LongestTerm;
 use crate::policy::TermPolicy;
@@ -36,7 +36,7 @@ impl TermPolicy for Sharing {
     }
 
     fn term(&mut self, _file: usize, others: usize) -> u16 {
-        // The sum ends at the largest usize, where it still leaves nothing for each.
+        // The largest usize has no number after it; it leaves 0 to each, and so would one more.
         (usize::from(self.longest.ticks) / others.saturating_add(1)) as u16
     }
 }

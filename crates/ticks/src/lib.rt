@@ -1,4 +1,4 @@
-// Lengths of time in ticks, each with a most that its type states.
+// Lengths of time in ticks, whose types say how long they may be.
 #![tactic(auto)]
 
 ghost use Rattle.std.specs.Prelude.{◌≡◌, ◌<◌, ◌≤◌, MatchOption};
