@@ -1,50 +1,48 @@
-ghost use Rattle.std.specs.Prelude.{◌≡◌, ◌+◌, ◌≤◌};
-ghost use Rattle.std.proofs.Common.{rules, arith};
+ghost use Rattle.std.specs.Prelude.{◌≡◌};
+ghost use Rattle.std.proofs.Common.{rules};
+ghost use Rattle.clocks.specs.Course.{Begins, Passes};
 
-use crate::clock::{ClockBank, FIRST_TICK, LAST_TICK};
+use crate::clock::ClockBank;
+use crate::course::Course;
 use crate::drift::DriftBound;
 
 // Clocks that all read the true time, whatever the bound allows.
-#[derive(Clone, Copy)]
+#[derive(Clone, Copy, PartialEq, Eq)]
 pub struct Exact {
-    time: u32,
-    drift: u16,
-    ghost ends: { time ≤ 1000000000 },
-    ghost tight: { drift ≤ 1000 },
+    course: Course,
 }
 
 impl ClockBank for Exact {
-    ghost time = { λ s. s.time };
+    ghost time = { λ s. s.course.time };
 
-    ghost bound = { λ s _. s.drift };
+    ghost bound = { λ s _. s.course.drift.ticks };
 
-    ghost begins = { λ e s. (s.time ≡ 1000) × (s.drift ≡ e) };
+    ghost begins = { λ e s. Begins e s.course };
 
-    ghost reads = { λ s _ r t. (r ≡ s.time) × (t.time ≡ s.time) × (t.drift ≡ s.drift) };
+    ghost reads = { λ s _ r t. (r ≡ s.course.time) × (t ≡ s) };
 
-    ghost passes = { λ s d t. (t.time ≡ s.time + d) × (t.drift ≡ s.drift) };
+    ghost passes = { λ s d t. Passes s.course d t.course };
 
-    ghost begun = { first_of (Prim.search rules, Prim.grind (arith, Self.row.coded.inj)) };
+    ghost begun = { Prim.search rules };
 
-    ghost near = { first_of (Prim.search rules, Prim.grind (arith, Self.row.coded.inj)) };
+    ghost near = { Prim.search rules };
 
-    ghost still = { first_of (Prim.search rules, Prim.grind (arith, Self.row.coded.inj)) };
+    ghost still = { Prim.search rules };
 
-    ghost passed = { first_of (Prim.search rules, Prim.grind (arith, Self.row.coded.inj)) };
+    ghost passed = { Prim.search rules };
 
-    ghost ends = { first_of (Prim.search rules, Prim.grind (arith, Self.row.coded.inj)) };
+    ghost ends = { Prim.search rules };
 
-    ghost tight = { first_of (Prim.search rules, Prim.grind (arith, Self.row.coded.inj)) };
+    ghost tight = { Prim.search rules };
 
     fn new(drift: DriftBound) -> Exact {
         Exact {
-            time: FIRST_TICK,
-            drift: drift.ticks,
+            course: Course::new(drift),
         }
     }
 
     fn true_time(&self) -> u32 {
-        self.time
+        self.course.time
     }
 
     fn read(&mut self, _node: usize) -> u32 {
@@ -52,10 +50,6 @@ impl ClockBank for Exact {
     }
 
     fn pass(&mut self, ticks: u32) -> bool {
-        if ticks > LAST_TICK - self.time {
-            return false;
-        }
-        self.time += ticks;
-        true
+        self.course.pass(ticks)
     }
 }

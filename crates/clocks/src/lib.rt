@@ -5,6 +5,7 @@
 #![tactic(auto)]
 
 pub mod clock;
+mod course;
 pub mod drift;
 pub mod exact;
 pub mod swinging;

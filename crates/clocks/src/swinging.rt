@@ -1,71 +1,61 @@
-ghost use Rattle.std.specs.Prelude.{◌≡◌, ◌+◌, ◌-◌, ◌≤◌, true, not, if◌then◌else◌};
-ghost use Rattle.std.proofs.Common.{rules, arith};
+ghost use Rattle.std.specs.Prelude.{◌≡◌, ◌+◌, ◌-◌, true, not, if◌then◌else◌};
+ghost use Rattle.std.proofs.Common.{rules};
+ghost use Rattle.clocks.specs.Course.{Begins, Passes};
 
-use crate::clock::{ClockBank, FIRST_TICK, LAST_TICK};
+use crate::clock::ClockBank;
+use crate::course::Course;
 use crate::drift::DriftBound;
 
 // Clocks at the edges of their bound: the whole bank reads ahead by it, then behind by it, by turns.
-#[derive(Clone, Copy)]
+#[derive(Clone, Copy, PartialEq, Eq)]
 pub struct Swinging {
-    time: u32,
-    drift: u16,
+    course: Course,
     ahead: bool,
-    ghost starts: { 1000 ≤ time },
-    ghost ends: { time ≤ 1000000000 },
-    ghost tight: { drift ≤ 1000 },
 }
 
 impl ClockBank for Swinging {
-    ghost time = { λ s. s.time };
+    ghost time = { λ s. s.course.time };
 
-    ghost bound = { λ s _. s.drift };
+    ghost bound = { λ s _. s.course.drift.ticks };
 
-    ghost begins = { λ e s. (s.time ≡ 1000) × (s.drift ≡ e) × (s.ahead ≡ true) };
+    ghost begins = { λ e s. Begins e s.course × (s.ahead ≡ true) };
 
-    ghost reads = { λ s _ r t. (r ≡ (if s.ahead then s.time + s.drift else s.time - s.drift)) × (t.time ≡ s.time) × (t.drift ≡ s.drift) × (t.ahead ≡ not s.ahead) };
+    ghost reads = { λ s _ r t. (r ≡ (if s.ahead then s.course.time + s.course.drift.ticks else s.course.time - s.course.drift.ticks)) × (t.course ≡ s.course) × (t.ahead ≡ not s.ahead) };
 
-    ghost passes = { λ s d t. (t.time ≡ s.time + d) × (t.drift ≡ s.drift) × (t.ahead ≡ s.ahead) };
+    ghost passes = { λ s d t. Passes s.course d t.course × (t.ahead ≡ s.ahead) };
 
-    ghost begun = { first_of (Prim.search rules, Prim.grind (arith, Self.row.coded.inj)) };
+    ghost begun = { Prim.search rules };
 
-    ghost near = { first_of (Prim.search rules, Prim.grind (arith, Self.row.coded.inj)) };
+    ghost near = { Prim.search rules };
 
-    ghost still = { first_of (Prim.search rules, Prim.grind (arith, Self.row.coded.inj)) };
+    ghost still = { Prim.search rules };
 
-    ghost passed = { first_of (Prim.search rules, Prim.grind (arith, Self.row.coded.inj)) };
+    ghost passed = { Prim.search rules };
 
-    ghost ends = { first_of (Prim.search rules, Prim.grind (arith, Self.row.coded.inj)) };
+    ghost ends = { Prim.search rules };
 
-    ghost tight = { first_of (Prim.search rules, Prim.grind (arith, Self.row.coded.inj)) };
+    ghost tight = { Prim.search rules };
 
     fn new(drift: DriftBound) -> Swinging {
         Swinging {
-            time: FIRST_TICK,
-            drift: drift.ticks,
+            course: Course::new(drift),
             ahead: true,
         }
     }
 
     fn true_time(&self) -> u32 {
-        self.time
+        self.course.time
     }
 
     fn read(&mut self, _node: usize) -> u32 {
+        let time = self.true_time();
+        let drift = u32::from(self.course.drift.ticks);
         let ahead = self.ahead;
-        let drift = u32::from(self.drift);
         self.ahead = !ahead;
-        if ahead {
-            self.time + drift
-        } else {
-            self.time - drift
-        }
+        if ahead { time + drift } else { time - drift }
     }
 
     fn pass(&mut self, ticks: u32) -> bool {
-        if ticks > LAST_TICK - self.time {
-            return false;
-        }
-        self.time += ticks;
-        true
+        self.course.pass(ticks)
     }
 }

@@ -1,39 +1,38 @@
-ghost use Rattle.std.specs.Prelude.{◌≡◌, ◌≤◌, true};
-ghost use Rattle.std.proofs.Common.{rules, arith};
+ghost use Rattle.std.specs.Prelude.{◌≡◌, true};
+ghost use Rattle.std.proofs.Common.{rules};
 
 use crate::longest::LongestTerm;
 use crate::policy::TermPolicy;
 
 // Always the longest term.
-#[derive(Clone, Copy)]
+#[derive(Clone, Copy, PartialEq, Eq)]
 pub struct Fixed {
-    term: u16,
-    ghost small: { term ≤ 60000 },
+    longest: LongestTerm,
 }
 
 impl TermPolicy for Fixed {
-    ghost longest = { λ s. s.term };
+    ghost longest = { λ s. s.longest.ticks };
 
     ghost suits = { λ _. true };
 
-    ghost begins = { λ l s. s.term ≡ l };
+    ghost begins = { λ l s. s.longest.ticks ≡ l };
 
-    ghost answers = { λ s _ _ term t. (term ≡ s.term) × (t.term ≡ s.term) };
+    ghost answers = { λ s _ _ term t. (term ≡ s.longest.ticks) × (t ≡ s) };
 
-    ghost begun = { first_of (Prim.search rules, Prim.grind (arith, Self.row.coded.inj)) };
+    ghost begun = { Prim.search rules };
 
-    ghost within = { first_of (Prim.search rules, Prim.grind (arith, Self.row.coded.inj)) };
+    ghost within = { Prim.search rules };
 
-    ghost lasting = { first_of (Prim.search rules, Prim.grind (arith, Self.row.coded.inj)) };
+    ghost lasting = { Prim.search rules };
 
-    ghost small = { first_of (Prim.search rules, Prim.grind (arith, Self.row.coded.inj)) };
+    ghost small = { Prim.search rules };
 
     fn new(most: LongestTerm) -> Option<Fixed> {
-        Some(Fixed { term: most.ticks })
+        Some(Fixed { longest: most })
     }
 
     fn longest_term(&self) -> u16 {
-        self.term
+        self.longest.ticks
     }
 
     fn term(&mut self, _file: usize, _others: usize) -> u16 {

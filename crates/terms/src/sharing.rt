@@ -1,46 +1,42 @@
-ghost use Rattle.std.specs.Prelude.{◌≡◌, ◌+◌, ◌/◌, ◌≤◌, true};
-ghost use Rattle.std.proofs.Common.{rules, arith};
+ghost use Rattle.std.specs.Prelude.{◌≡◌, ◌+◌, ◌/◌, true};
+ghost use Rattle.std.proofs.Common.{rules};
 
 use crate::longest::LongestTerm;
 use crate::policy::TermPolicy;
 
 // The longest term, shared among the asker and the others that hold the file.
-#[derive(Clone, Copy)]
+#[derive(Clone, Copy, PartialEq, Eq)]
 pub struct Sharing {
-    whole: u16,
-    ghost small: { whole ≤ 60000 },
+    longest: LongestTerm,
 }
 
 impl TermPolicy for Sharing {
-    ghost longest = { λ s. s.whole };
+    ghost longest = { λ s. s.longest.ticks };
 
     ghost suits = { λ _. true };
 
-    ghost begins = { λ l s. s.whole ≡ l };
+    ghost begins = { λ l s. s.longest.ticks ≡ l };
 
-    ghost answers = { λ s _ others term t. (term ≡ s.whole / (others + 1)) × (t.whole ≡ s.whole) };
+    ghost answers = { λ s _ others term t. (term ≡ s.longest.ticks / (others + 1)) × (t ≡ s) };
 
-    ghost begun = { first_of (Prim.search rules, Prim.grind (arith, Self.row.coded.inj)) };
+    ghost begun = { Prim.search rules };
 
-    ghost within = { first_of (Prim.search rules, Prim.grind (arith, Self.row.coded.inj)) };
+    ghost within = { Prim.search rules };
 
-    ghost lasting = { first_of (Prim.search rules, Prim.grind (arith, Self.row.coded.inj)) };
+    ghost lasting = { Prim.search rules };
 
-    ghost small = { first_of (Prim.search rules, Prim.grind (arith, Self.row.coded.inj)) };
+    ghost small = { Prim.search rules };
 
     fn new(most: LongestTerm) -> Option<Sharing> {
-        Some(Sharing { whole: most.ticks })
+        Some(Sharing { longest: most })
     }
 
     fn longest_term(&self) -> u16 {
-        self.whole
+        self.longest.ticks
     }
 
     fn term(&mut self, _file: usize, others: usize) -> u16 {
-        // more others than there are ticks leave nothing to share
-        if others >= 60_000 {
-            return 0;
-        }
-        self.whole / (others as u16 + 1)
+        // The largest usize has no number after it; it leaves 0 to each, and so would one more.
+        (usize::from(self.longest.ticks) / others.saturating_add(1)) as u16
     }
 }

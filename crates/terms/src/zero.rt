@@ -1,11 +1,11 @@
-ghost use Rattle.std.specs.Prelude.{◌≡◌, ◌≤◌, ◌==◌};
+ghost use Rattle.std.specs.Prelude.{◌≡◌, ◌==◌};
 ghost use Rattle.std.proofs.Common.{rules};
 
 use crate::longest::LongestTerm;
 use crate::policy::TermPolicy;
 
 // No lease ever lives: a copy is fetched and has run out.
-#[derive(Clone, Copy)]
+#[derive(Clone, Copy, PartialEq, Eq)]
 pub struct Zero;
 
 impl TermPolicy for Zero {
@@ -26,10 +26,7 @@ impl TermPolicy for Zero {
     ghost small = { Prim.search rules };
 
     fn new(most: LongestTerm) -> Option<Zero> {
-        if most.ticks != 0 {
-            return None;
-        }
-        Some(Zero)
+        (most.ticks == 0).then_some(Zero)
     }
 
     fn longest_term(&self) -> u16 {
