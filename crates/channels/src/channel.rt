@@ -19,7 +19,7 @@ pub trait Channel: Sized {
     ghost takes: { Self → Option Message → Self → Type 0 };
 
     // A new channel. All its room is reserved here: no later call can fail for want of memory.
-    fn new(heap: Global) -> Result<Self, AllocError>
+    fn new(alloc: Global) -> Result<Self, AllocError>
         ensures { IfOk result begins };
 
     fn send(&mut self, message: Message)

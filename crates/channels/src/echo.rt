@@ -46,8 +46,8 @@ impl<C: Channel> Channel for Echo<C> {
           | inr held ↦ let nothing = gave.1 in let z : ◌≡◌ {A = ℕ} 0 1 = cc in absurd (omega arith)
         ]) };
 
-    fn new(heap: Global) -> Result<Echo<C>, AllocError> {
-        let below = C::new(heap)?;
+    fn new(alloc: Global) -> Result<Echo<C>, AllocError> {
+        let below = C::new(alloc)?;
         Ok(Echo { below, held: None })
     }
 
@@ -56,12 +56,12 @@ impl<C: Channel> Channel for Echo<C> {
     }
 
     fn take(&mut self) -> Option<Message> {
-        if let Some(message) = self.held {
-            self.held = None;
-            return Some(message);
+        match self.held.take() {
+            Some(message) => Some(message),
+            None => {
+                self.held = self.below.take();
+                self.held
+            }
         }
-        let message = self.below.take();
-        self.held = message;
-        message
     }
 }

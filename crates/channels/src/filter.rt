@@ -1,5 +1,6 @@
-ghost use Rattle.std.specs.Prelude.{◌≡◌, ◌≤◌, [], vec_len, vec_capacity, Decides, Option};
-ghost use Rattle.std.proofs.Common.{subst, rules, arith};
+ghost use Rattle.std.specs.Prelude.{◌≡◌, ◌≤◌, [], Decides, Option};
+ghost use Rattle.std.specs.VecDeque.{deque_len, deque_capacity};
+ghost use Rattle.std.proofs.Common.{subst, rules};
 ghost use Rattle.std.specs.List.{ContainsAt as Has};
 ghost use Rattle.messages.specs.declared.message.Message.{Message};
 ghost use Rattle.channels.specs.Filter.{Filtered, remembered};
@@ -8,6 +9,7 @@ ghost use Rattle.channels.specs.Filters.{given_came};
 use crate::channel::Channel;
 use messages::message::Message;
 use std::alloc::{AllocError, Global};
+use std::collections::VecDeque;
 
 // How many of the messages that it gave a filter remembers.
 const REMEMBERED: usize = 4;
@@ -17,9 +19,9 @@ const REMEMBERED: usize = 4;
 pub struct RepeatFilter<C> {
     below: C,
     // the last that it gave, the newest last
-    given: Vec<Message>,
-    ghost room: { 4 ≤ vec_capacity given },
-    ghost few: { vec_len given ≤ 4 },
+    given: VecDeque<Message>,
+    ghost room: { 4 ≤ deque_capacity given },
+    ghost few: { deque_len given ≤ 4 },
 }
 
 impl<C> RepeatFilter<C> {
@@ -36,9 +38,9 @@ impl<C> RepeatFilter<C> {
         ensures below { self.new.below ≡ self.old.below }
     {
         if self.given.len() == REMEMBERED {
-            let _ = self.given.remove(0);
+            self.given.pop_front();
         }
-        self.given.push_reserved(message);
+        self.given.push_back_reserved(message);
     }
 }
 
@@ -51,7 +53,7 @@ impl<C: Channel> Channel for RepeatFilter<C> {
 
     ghost takes = { λ f r g. (came : Option Message) × C.Channel.takes f.below came g.below × Filtered f.given.items came r g.given.items };
 
-    ghost begun = { first_of (Prim.search rules, Prim.grind (arith, Self.row.coded.inj)) };
+    ghost begun = { Prim.search rules };
 
     ghost sent = { λ s t m x sent waits. C.Channel.sent _ _ m x sent.1 waits };
 
@@ -59,9 +61,9 @@ impl<C: Channel> Channel for RepeatFilter<C> {
 
     ghost kept = { λ s t r x (came, took, filtered) waits. C.Channel.kept _ _ came x took waits };
 
-    fn new(heap: Global) -> Result<RepeatFilter<C>, AllocError> {
-        let given = Vec::with_capacity(heap, REMEMBERED)?;
-        let below = C::new(heap)?;
+    fn new(alloc: Global) -> Result<RepeatFilter<C>, AllocError> {
+        let given = VecDeque::with_capacity(alloc, REMEMBERED)?;
+        let below = C::new(alloc)?;
         Ok(RepeatFilter { below, given })
     }
 
@@ -70,9 +72,7 @@ impl<C: Channel> Channel for RepeatFilter<C> {
     }
 
     fn take(&mut self) -> Option<Message> {
-        let Some(message) = self.below.take() else {
-            return None;
-        };
+        let message = self.below.take()?;
         if self.gave(message) {
             return None;
         }

@@ -10,3 +10,4 @@ pub mod filter;
 pub mod loss;
 pub mod pool;
 pub mod queue;
+mod store;

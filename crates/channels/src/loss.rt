@@ -24,19 +24,19 @@ impl<C: Channel> Channel for Loss<C> {
 
     ghost takes = { λ l r k. (k.passed_on ≡ l.passed_on) × C.Channel.takes l.below r k.below };
 
-    ghost begun = { first_of (Prim.search rules, Prim.grind (arith, Self.row.coded.inj)) };
+    ghost begun = { Prim.search rules };
 
     ghost sent = { λ s t m x sent held.
         by_test (nat_eq s.passed_on 2) sent
         (λ dropped. inl (subst (λ (below : _). C.Channel.waits below x) dropped.1 held))
         (λ passed. C.Channel.sent _ _ m x passed.1 held) };
 
-    ghost taken = { first_of (Prim.search rules, Prim.grind (arith, Self.row.coded.inj)) };
+    ghost taken = { Prim.search rules };
 
     ghost kept = { λ s t r x took held. C.Channel.kept _ _ r x took.1 held };
 
-    fn new(heap: Global) -> Result<Loss<C>, AllocError> {
-        let below = C::new(heap)?;
+    fn new(alloc: Global) -> Result<Loss<C>, AllocError> {
+        let below = C::new(alloc)?;
         Ok(Loss {
             below,
             passed_on: 0,
