@@ -1,4 +1,6 @@
 // What else the protocol promises of every run, each promise with the number that it turns on.
+//
+// A function without code carries a theorem to its number: a wrong number is refused where it is made, and not in a proof.
 ghost use Rattle.std.specs.Prelude.{◌≡◌, ℕ, ◌+◌, ◌-◌, ◌*◌, ◌<◌, ◌≤◌, List, []};
 ghost use Rattle.protocol.specs.Rules.{sound};
 ghost use Rattle.protocol.specs.Promises.{Once, VersionAfter, BoundedWait, WaitsBelow, VersionsFit, VersionsWithin};

@@ -6,26 +6,10 @@ ghost use Rattle.protocol.specs.Rules.{sound, narrow_margin, overwritten_entry, 
 ghost use Rattle.protocol.specs.Promises.{Agreement};
 ghost use Rattle.protocol.specs.Witnesses.{Broken, LeastMargin, EachGuardNeeded};
 
-fn agreement()
-    ensures { Agreement sound (List ℕ) }
-{}
-
 fn smaller_margin_breaks(station_bound: u32, parent_bound: u32, least: u64)
     requires { least ≡ 2 * station_bound + 2 * parent_bound }
     ensures any { LeastMargin (List ℕ) [] station_bound parent_bound least }
     ensures three { Broken narrow_margin (List ℕ) [] }
-{}
-
-fn overwritten_entry_breaks()
-    ensures { Broken overwritten_entry (List ℕ) [] }
-{}
-
-fn late_grant_breaks()
-    ensures { Broken (without open_ask) (List ℕ) [] }
-{}
-
-fn each_guard_needed()
-    ensures { EachGuardNeeded (List ℕ) [] }
 {}
 
 // What a run-out leaves off, given the drift bounds of the station and of its parent. With it every live copy agrees with the primary;
@@ -37,7 +21,6 @@ pub fn margin(station_bound: u32, parent_bound: u32) -> u64
     ensures three { Broken narrow_margin (List ℕ) [] }
 {
     let least = 2 * station_bound as u64 + 2 * parent_bound as u64;
-    agreement();
     smaller_margin_breaks(station_bound, parent_bound, least);
     least
 }
@@ -48,8 +31,7 @@ pub fn entry_after(entry: u64, end: u64) -> u64
     ensures rule { result ≡ sound.joined entry end }
     ensures needed { Broken overwritten_entry (List ℕ) [] }
 {
-    overwritten_entry_breaks();
-    if entry < end { end } else { entry }
+    entry.max(end)
 }
 
 // Whether a GRANT acts, given whether its ask is open. If one acted after its ask was closed, some run would break agreement.
@@ -57,9 +39,7 @@ pub fn grant_acts(ask_is_open: bool) -> bool
     ensures rule { result ≡ cond (sound.keeps open_ask) ask_is_open true }
     ensures needed { Broken (without open_ask) (List ℕ) [] }
 {
-    let acts = ask_is_open;
-    late_grant_breaks();
-    acts
+    ask_is_open
 }
 
 // How many guards agreement rests on: without any one of them, and with all others, some run breaks agreement.
@@ -67,6 +47,5 @@ pub fn guards() -> usize
     ensures number { result ≡ length (open_ask ∷ (own_number ∷ (no_write_waits ∷ (next_version ∷ (quiet_mark ∷ (children_done ∷ (entries_done ∷ []))))))) }
     ensures needed { EachGuardNeeded (List ℕ) [] }
 {
-    each_guard_needed();
     7
 }

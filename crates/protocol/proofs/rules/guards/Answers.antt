@@ -2,7 +2,7 @@
 -- Assumes nothing.
 use Rattle.protocol.proofs.EachGuard.{each_guard_needed}
 use Rattle.protocol.proofs.TwoRows.{two_rows}
-use Rattle.protocol.proofs.rules.each_guard_needed.Goals as goal
+use Rattle.protocol.proofs.rules.guards.Goals as goal
 
-pub returns : goal.returns
-returns c = each_guard_needed _ _ two_rows
+pub returns-clause-needed : goal.returns-clause-needed
+returns-clause-needed c = each_guard_needed _ _ two_rows
