@@ -4,6 +4,6 @@
 #![tactic(auto)]
 
 pub mod accepts;
-pub mod frame_trips;
-pub mod row_trips;
+pub mod format;
+pub mod trips;
 pub mod worked;
