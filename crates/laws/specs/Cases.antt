@@ -1,5 +1,5 @@
 -- Cases of the rules worked by hand, as one table. Assumes nothing.
-use Rattle.std.specs.Prelude.{◌≡◌, ℕ, List, [], ◌∷◌, ◌++◌, replicate, negsuc, Ok, Err, Result}
+use Rattle.std.specs.Prelude.{◌≡◌, ℕ, ◌≤◌, List, [], ◌∷◌, ◌++◌, replicate, ℤ, pos, negsuc, ◌≤ℤ◌, Ok, Err, Result}
 use Rattle.std.proofs.Common.{lit≤}
 use Rattle.faults.specs.declared.fault.Fault.{Fault}
 use Rattle.rows.specs.declared.pass.PassRow.{PassRow}
@@ -32,28 +32,15 @@ Every (c ∷ cs) = Holds c × Every cs
 abbrev pub pass_bytes : ℕ → List ℕ
 pass_bytes antenna = 0x01 ∷ 0x00 ∷ 0x07 ∷ antenna ∷ 0x00 ∷ 0x00 ∷ 0x8c ∷ 0xa0 ∷ 0x02 ∷ 0x58 ∷ replicate 6 0
 
-abbrev pub pass_on_3 : PassRow
-pass_on_3 =
+abbrev pub pass_on : (antenna : ℕ) → (1 ≤ antenna) × (antenna ≤ 8) → PassRow
+pass_on antenna lawful =
     record {
       satellite = 7;
-      antenna = 3;
+      antenna = antenna;
       start = 36000;
       seconds = 600;
       satellites = (lit≤ tt, lit≤ tt);
-      antennas = (lit≤ tt, lit≤ tt);
-      starts = lit≤ tt;
-      lengths = (lit≤ tt, lit≤ tt);
-    }
-
-abbrev pub pass_on_8 : PassRow
-pass_on_8 =
-    record {
-      satellite = 7;
-      antenna = 8;
-      start = 36000;
-      seconds = 600;
-      satellites = (lit≤ tt, lit≤ tt);
-      antennas = (lit≤ tt, lit≤ tt);
+      antennas = lawful;
       starts = lit≤ tt;
       lengths = (lit≤ tt, lit≤ tt);
     }
@@ -62,29 +49,29 @@ pass_on_8 =
 abbrev pub tuning_bytes : List ℕ → List ℕ
 tuning_bytes offset = 0x02 ∷ 0x00 ∷ 0x07 ∷ 0x1a ∷ 0x0c ∷ 0x17 ∷ 0x40 ∷ offset ++ replicate 5 0
 
--- an offset of −9,500 Hz
-abbrev pub tuning_below : TuningRow
-tuning_below =
+abbrev pub tuning_by : (offset : ℤ) → (negsuc 199999 ≤ℤ offset) × (offset ≤ℤ pos 200000) → TuningRow
+tuning_by offset lawful =
     record {
       satellite = 7;
       downlink = 437000000;
-      offset = negsuc 9499;
+      offset = offset;
       satellites = (lit≤ tt, lit≤ tt);
       downlinks = (lit≤ tt, lit≤ tt);
-      offsets = (record { le = tt }, record { le = tt });
+      offsets = lawful;
     }
 
--- the widest offset below, −200,000 Hz
+-- the rows of the cases: on antennas 3 and 8, and with offsets of −9,500 Hz and of −200,000 Hz, the widest below
+abbrev pub pass_on_3 : PassRow
+pass_on_3 = pass_on 3 (lit≤ tt, lit≤ tt)
+
+abbrev pub pass_on_8 : PassRow
+pass_on_8 = pass_on 8 (lit≤ tt, lit≤ tt)
+
+abbrev pub tuning_below : TuningRow
+tuning_below = tuning_by (negsuc 9499) (record { le = tt }, record { le = tt })
+
 abbrev pub tuning_widest : TuningRow
-tuning_widest =
-    record {
-      satellite = 7;
-      downlink = 437000000;
-      offset = negsuc 199999;
-      satellites = (lit≤ tt, lit≤ tt);
-      downlinks = (lit≤ tt, lit≤ tt);
-      offsets = (record { le = tt }, record { le = tt });
-    }
+tuning_widest = tuning_by (negsuc 199999) (record { le = tt }, record { le = tt })
 
 abbrev pub table : List Case
 table =
