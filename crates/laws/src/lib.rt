@@ -4,6 +4,7 @@
 #![tactic(auto)]
 
 pub mod accepts;
+pub mod equality;
 pub mod frame_trips;
 pub mod row_trips;
 pub mod worked;

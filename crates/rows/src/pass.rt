@@ -1,7 +1,7 @@
 ghost use Rattle.std.specs.Prelude.{◌≤◌};
 
 // A pass row: from `start`, in seconds of the week, an antenna follows a satellite for `seconds`.
-#[derive(Clone, Copy, PartialEq)]
+#[derive(Clone, Copy, Debug, PartialEq, Eq)]
 pub struct PassRow {
     pub satellite: u16,
     pub antenna: u8,

@@ -5,7 +5,7 @@ use crate::tuning::TuningRow;
 pub const ROW_BYTES: usize = 16;
 
 // What a file holds: nothing yet, a pass or a tuning.
-#[derive(Clone, Copy, PartialEq)]
+#[derive(Clone, Copy, Debug, PartialEq, Eq)]
 pub enum Row {
     Empty,
     Pass(PassRow),

@@ -1,7 +1,7 @@
 ghost use Rattle.std.specs.Prelude.{◌≤◌, pos, negsuc, ◌≤ℤ◌};
 
 // A tuning row: the downlink frequency on which a satellite is received, and the receiver's offset from it, in Hz.
-#[derive(Clone, Copy, PartialEq)]
+#[derive(Clone, Copy, Debug, PartialEq, Eq)]
 pub struct TuningRow {
     pub satellite: u16,
     pub downlink: u32,
