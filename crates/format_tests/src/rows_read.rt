@@ -72,7 +72,7 @@ fn a_fault_is_told_in_words(rt: HostRuntime) -> Result<(), Fail> {
         Fault::unlawful(7).to_string(rt.alloc())?.as_str(),
         "refused with 11 at byte 7, layer 2"
     );
-    assert_eq!(rt; Refusal::Layout.number(), 1);
-    assert_eq!(rt; Refusal::HistoryFull.number(), 19);
+    assert_eq!(rt; u8::from(Refusal::Layout), 1);
+    assert_eq!(rt; u8::from(Refusal::HistoryFull), 19);
     Ok(())
 }

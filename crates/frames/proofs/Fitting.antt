@@ -1,47 +1,48 @@
 -- A frame has no fault exactly where it is lawful by its mark. Assumes nothing.
-use Rattle.std.proofs.Common.{◌≡◌, ℕ, ◌≤◌, Bool, true, false, cond, ◌||◌, eqb, List, length, get_or, take, drop, is_ok, Some, None, Ok, Err, Decides, Option, Result, sym, refl, ap, ◌∙◌, arith, eq-eqb, eqb-true}
+use Rattle.std.proofs.Common.{◌≡◌, ℕ, ◌≤◌, Bool, true, cond, ◌||◌, eqb, List, length, take, drop, is_ok, Some, None, Ok, Err, Decides, Option, Result, sym, refl, ap, ◌∙◌, arith, eq-eqb, eqb-true}
+use Rattle.std.specs.List.{list_all}
 use Rattle.std.proofs.lemmas.Bool.Decides.{nat_tests}
 use Rattle.faults.specs.declared.fault.Fault.{Fault}
-use Rattle.rows.specs.Bytes.{be2, be4}
-use Rattle.faults.specs.Refusals.{unlawful_at}
+use Rattle.faults.specs.Refusals.{unlawful_at, unknown_frame, wrong_at}
 use Rattle.rows.specs.Rows.{row_wrong}
 use Rattle.messages.specs.declared.kind.Kind.{Kind}
 use Rattle.messages.specs.declared.kind.Kind.TheVariants.{Ask, Grant, Recall, Approve, Write, Done}
 use Rattle.messages.specs.declared.marks.Form.{Form}
 use Rattle.messages.specs.declared.message.Message.{Message}
-use Rattle.frames.specs.Accepts.{mark, In, Uses, Fits, LawfulFrame}
-use Rattle.frames.specs.Frames.{unknown_frame, wrong_at, fault_at, first_fault, all_zero, fields_wrong, row_fault, marked_fault, frame_fault, FrameRead}
 use Rattle.messages.specs.Marks.{form, kind_marked}
+use Rattle.frames.specs.declared.head.Head.{Head}
+use Rattle.frames.specs.Heads.{head_in}
+use Rattle.frames.specs.Accepts.{mark, In, Uses, Fits, LawfulFrame}
+use Rattle.frames.specs.Frames.{fault_at, first_fault, fields_wrong, row_fault, marked_fault, halves_fault, frame_fault, FrameRead}
 use Rattle.frames.proofs.OneMark.{kind_found, mark_found}
 use Rattle.frames.proofs.Zeros.{each_zero, zero_all}
 
 first_none : (a b : Option Fault) → first_fault a b ≡ None → (a ≡ None) × (b ≡ None)
 first_none None b e = (refl, e)
-first_none (Some fault) b e = let z : ◌≡◌ {A = ℕ} 0 1 = cc in absurd (omega arith)
+first_none (Some fault) b e = absurd (grind arith)
 
 pub nowhere : (fault : ℕ → Fault) (place : Option ℕ) → fault_at fault place ≡ None → place ≡ None
 nowhere fault None e = refl
-nowhere fault (Some place) e = let z : ◌≡◌ {A = ℕ} 0 1 = cc in absurd (omega arith)
+nowhere fault (Some place) e = absurd (grind arith)
 
 not_unknown : (ok : Bool) (rest : Option Fault) → cond ok rest (Some unknown_frame) ≡ None → (ok ≡ true) × (rest ≡ None)
-not_unknown true rest e = (refl, e)
-not_unknown false rest e = let z : ◌≡◌ {A = ℕ} 0 1 = cc in absurd (omega arith)
+not_unknown ok rest e = grind arith
 
 unused : {n : ℕ} → n ≡ 0 → In 0 0 n
 unused e = (omega arith, omega (arith, e))
 
 -- what the fields keep to where a form finds none of them wrong
-pub record Keeps (f : Form) (head row : List ℕ) : Type 0 where
-  pub from : get_or head 2 0 ≤ 15
-  pub to : get_or head 3 0 ≤ 15
-  pub file : get_or head 4 0 ≤ 31
-  pub gap : get_or head 5 0 ≡ 0
-  pub number : In f.numbers.low f.numbers.high (be4 head 6)
-  pub version : In f.versions.low f.versions.high (be4 head 10)
-  pub term : In f.terms.low f.terms.high (be2 head 14)
-  pub used : (f.has_row || all_zero row) ≡ true
+pub record Keeps (f : Form) (head : Head) (row : List ℕ) : Type 0 where
+  pub from : head.from ≤ 15
+  pub to : head.to ≤ 15
+  pub file : head.file ≤ 31
+  pub gap : head.gap ≡ 0
+  pub number : In f.numbers.low f.numbers.high head.number
+  pub version : In f.versions.low f.versions.high head.version
+  pub term : In f.terms.low f.terms.high head.term
+  pub used : (f.has_row || list_all (λ b. eqb b 0) row) ≡ true
 
-module _ (head row : List ℕ) where
+module _ (head : Head) (row : List ℕ) where
   pub keeps : (f : Form) → fields_wrong f head row ≡ None → Keeps f head row
   keeps f e =
       record {
@@ -56,19 +57,9 @@ module _ (head row : List ℕ) where
       }
 
   none_wrong : (f : Form) → Keeps f head row → fields_wrong f head row ≡ None
-  none_wrong f k =
-      let n = k.number in
-      let v = k.version in
-      let t = k.term in
-      let a = n.0 in
-      let b = n.1 in
-      let c = v.0 in
-      let d = v.1 in
-      let g = t.0 in
-      let h = t.1 in
-      grind (arith, nat_tests)
+  none_wrong f k = grind (arith, nat_tests, k.from, k.to, k.file, k.gap, k.number.0, k.number.1, k.version.0, k.version.1, k.term.0, k.term.1, k.used)
 
-  uses_of : (kind : Kind) → Keeps (form kind) head row → row_fault (form kind) row ≡ None → Uses kind (be4 head 6) (be4 head 10) (be2 head 14) row
+  uses_of : (kind : Kind) → Keeps (form kind) head row → row_fault (form kind) row ≡ None → Uses kind head.number head.version head.term row
   uses_of Ask k e = (k.number, omega (arith, k.version.1), omega (arith, k.term.1), each_zero row k.used)
   uses_of Grant k e = (k.number, k.version, k.term.1, nowhere unlawful_at (row_wrong row) e)
   uses_of Recall k e = (omega (arith, k.number.1), k.version, omega (arith, k.term.1), each_zero row k.used)
@@ -79,13 +70,13 @@ module _ (head row : List ℕ) where
   -- the bounds of a kind's form, and its row, where the frame uses its fields lawfully
   abbrev Spans : Kind → Type 0
   Spans kind =
-      In (form kind).numbers.low (form kind).numbers.high (be4 head 6)
-      × In (form kind).versions.low (form kind).versions.high (be4 head 10)
-      × In (form kind).terms.low (form kind).terms.high (be2 head 14)
-      × (((form kind).has_row || all_zero row) ≡ true)
+      In (form kind).numbers.low (form kind).numbers.high head.number
+      × In (form kind).versions.low (form kind).versions.high head.version
+      × In (form kind).terms.low (form kind).terms.high head.term
+      × (((form kind).has_row || list_all (λ b. eqb b 0) row) ≡ true)
       × (row_fault (form kind) row ≡ None)
 
-  spans : (kind : Kind) → Uses kind (be4 head 6) (be4 head 10) (be2 head 14) row → Spans kind
+  spans : (kind : Kind) → Uses kind head.number head.version head.term row → Spans kind
   spans Ask u = (u.0, unused u.1, unused u.2, zero_all row u.3, refl)
   spans Grant u = (u.0, u.1, (omega arith, u.2), refl, ap (fault_at unlawful_at) u.3)
   spans Recall u = (unused u.0, u.1, unused u.2, zero_all row u.3, refl)
@@ -93,8 +84,8 @@ module _ (head row : List ℕ) where
   spans Write u = (u.0, unused u.1, unused u.2, refl, ap (fault_at unlawful_at) u.3)
   spans Done u = (u.0, unused u.1, unused u.2, zero_all row u.3, refl)
 
-  no_marked_fault : (kind : Kind) → Fits kind head row → marked_fault (kind_marked (be2 head 0)) head row ≡ None
-  no_marked_fault kind fits =
+  no_halves_fault : (kind : Kind) → Fits kind head row → halves_fault head row ≡ None
+  no_halves_fault kind fits =
       let known = ap kind_marked fits.marked ∙ kind_found kind in
       let s = spans kind fits.uses in
       let wrong =
@@ -110,7 +101,7 @@ module _ (head row : List ℕ) where
       }) in
       ap (λ (o : Option Kind). marked_fault o head row) known ∙ (λ i. first_fault (s.4 i) (fault_at wrong_at (wrong i)))
 
-  fits_kind : (kind : Kind) → be2 head 0 ≡ mark kind → marked_fault (kind_marked (be2 head 0)) head row ≡ None → Fits kind head row
+  fits_kind : (kind : Kind) → head.mark ≡ mark kind → halves_fault head row ≡ None → Fits kind head row
   fits_kind kind marked e =
       let known = ap kind_marked marked ∙ kind_found kind in
       let both = first_none (row_fault (form kind) row) (fault_at wrong_at (fields_wrong (form kind) head row)) (sym (ap (λ (o : Option Kind). marked_fault o head row) known) ∙ e) in
@@ -124,33 +115,33 @@ module _ (head row : List ℕ) where
         uses = uses_of kind k both.0;
       }
 
-  fits_some : (o : Option Kind) → kind_marked (be2 head 0) ≡ o → marked_fault o head row ≡ None → (kind : Kind) × Fits kind head row
-  fits_some None is e = let z : ◌≡◌ {A = ℕ} 0 1 = cc in absurd (omega arith)
+  fits_some : (o : Option Kind) → kind_marked head.mark ≡ o → marked_fault o head row ≡ None → (kind : Kind) × Fits kind head row
+  fits_some None is e = absurd (grind arith)
   fits_some (Some kind) is e =
-      (kind, fits_kind kind (mark_found (be2 head 0) kind is) (ap (λ (o : Option Kind). marked_fault o head row) is ∙ e))
+      (kind, fits_kind kind (mark_found head.mark kind is) (ap (λ (o : Option Kind). marked_fault o head row) is ∙ e))
 
 module _ (bs : List ℕ) where
-  marked_part : frame_fault bs ≡ None → (eqb (length bs) 32 ≡ true) × (marked_fault (kind_marked (be2 (take 16 bs) 0)) (take 16 bs) (drop 16 bs) ≡ None)
-  marked_part = not_unknown (eqb (length bs) 32) (marked_fault (kind_marked (be2 (take 16 bs) 0)) (take 16 bs) (drop 16 bs))
+  halves_part : frame_fault bs ≡ None → (eqb (length bs) 32 ≡ true) × (halves_fault (head_in (take 16 bs)) (drop 16 bs) ≡ None)
+  halves_part = not_unknown (eqb (length bs) 32) (halves_fault (head_in (take 16 bs)) (drop 16 bs))
 
   pub whole_length : frame_fault bs ≡ None → length bs ≡ 32
-  whole_length e = eqb-true (length bs) 32 (marked_part e).0
+  whole_length e = eqb-true (length bs) 32 (halves_part e).0
 
-  pub fits_marked : frame_fault bs ≡ None → (kind : Kind) → be2 (take 16 bs) 0 ≡ mark kind → Fits kind (take 16 bs) (drop 16 bs)
-  fits_marked e kind marked = fits_kind (take 16 bs) (drop 16 bs) kind marked (marked_part e).1
+  pub fits_marked : frame_fault bs ≡ None → (kind : Kind) → (head_in (take 16 bs)).mark ≡ mark kind → Fits kind (head_in (take 16 bs)) (drop 16 bs)
+  fits_marked e kind marked = fits_kind (head_in (take 16 bs)) (drop 16 bs) kind marked (halves_part e).1
 
   pub lawful : frame_fault bs ≡ None → LawfulFrame bs
   lawful e =
-      let some = fits_some (take 16 bs) (drop 16 bs) (kind_marked (be2 (take 16 bs) 0)) refl (marked_part e).1 in
+      let some = fits_some (head_in (take 16 bs)) (drop 16 bs) (kind_marked (head_in (take 16 bs)).mark) refl (halves_part e).1 in
       record { long = whole_length e; kind = some.0; fits = some.1 }
 
   pub no_fault : LawfulFrame bs → frame_fault bs ≡ None
   no_fault l =
-      ap (λ b. cond b (marked_fault (kind_marked (be2 (take 16 bs) 0)) (take 16 bs) (drop 16 bs)) (Some unknown_frame)) (eq-eqb (length bs) 32 l.long)
-      ∙ no_marked_fault (take 16 bs) (drop 16 bs) l.kind l.fits
+      ap (λ b. cond b (halves_fault (head_in (take 16 bs)) (drop 16 bs)) (Some unknown_frame)) (eq-eqb (length bs) 32 l.long)
+      ∙ no_halves_fault (head_in (take 16 bs)) (drop 16 bs) l.kind l.fits
 
 -- reading a frame decides whether it is lawful
 pub decides : (bs : List ℕ) (r : Result Message Fault) → FrameRead bs r → Decides (is_ok r) (LawfulFrame bs)
 decides bs (Ok message) (none, is) = (λ _. lawful bs none, λ _. refl)
 decides bs (Err fault) wrong =
-    (λ e. let z : ◌≡◌ {A = ℕ} 0 1 = cc in absurd (omega arith), λ l. let none = no_fault bs l in let z : ◌≡◌ {A = ℕ} 0 1 = cc in absurd (omega arith))
+    (λ e. absurd (grind arith), λ l. let none = no_fault bs l in absurd (grind arith))

@@ -1,5 +1,5 @@
 -- What is framed reads back the same, and what is read was framed so. Assumes nothing.
-use Rattle.std.proofs.Common.{◌≡◌, ℕ, zero, suc, ◌+◌, ◌-◌, ◌*◌, ◌/◌, ◌%◌, ◌^◌, ◌<◌, ◌≤◌, List, [], ◌∷◌, ◌++◌, length, get_or, take, drop, IfOk, None, Ok, Err, Result, sym, refl, ap, ◌∙◌, subst, arith, lit<, length-drop, take-append-drop, length-take-le, get_or-drop, eq-eqb}
+use Rattle.std.proofs.Common.{◌≡◌, ℕ, zero, suc, ◌+◌, ◌-◌, ◌*◌, ◌/◌, ◌%◌, ◌^◌, ◌<◌, ◌≤◌, List, [], ◌∷◌, ◌++◌, length, get_or, replicate, take, drop, IfOk, None, Ok, Err, Result, sym, refl, ap, ◌∙◌, subst, arith, lit<, length-drop, take-append-drop, length-take-le, get_or-drop, eq-eqb}
 use Rattle.faults.specs.declared.fault.Fault.{Fault}
 use Rattle.rows.specs.declared.row.Row.{Row}
 use Rattle.rows.specs.declared.row.Row.TheVariants.{Empty, Pass, Tuning}
@@ -17,8 +17,10 @@ use Rattle.frames.specs.Parts.{says, parts, body_of}
 use Rattle.frames.proofs.Fitting.{whole_length, fits_marked, no_fault}
 use Rattle.frames.proofs.Flat.{body_again, empty_row, lawful_uses}
 use Rattle.frames.proofs.OneMark.{mark_is, same_mark}
-use Rattle.messages.specs.Same.{same_message}
-use Rattle.frames.proofs.Zeros.{zeros_are}
+use Rattle.messages.specs.EqualityLaws.{same_message}
+use Rattle.frames.specs.Heads.{head_in}
+use Rattle.std.proofs.lemmas.Grind.{same_number_lists}
+use Rattle.std.proofs.lemmas.List.{get_or-replicate}
 
 mark_whole : (kind : Kind) → (form kind).mark / 256 % 256 * 256 + (form kind).mark % 256 ≡ (form kind).mark
 mark_whole Ask = refl
@@ -53,7 +55,7 @@ read_framed m =
     let v = whole4 (says b).1 fit.1 in
     let t = whole2 (says b).2 fit.2 in
     let long : length (framed m) ≡ 32 = omega (arith, row_long (says b).3) in
-    let fits : Fits kind (take 16 (framed m)) (drop 16 (framed m)) =
+    let fits : Fits kind (head_in (take 16 (framed m))) (drop 16 (framed m)) =
     record {
       marked = mark_whole kind ∙ mark_is kind;
       from_fits = m.nodes.0;
@@ -113,7 +115,7 @@ module _ (row : List ℕ) (long : length row ≡ 16) (fit : (i : ℕ) → get_or
   lawful_back r none is = let fields = rw (eq-eqb (length row) 16 long) at none in made_back row long fit (Ok r) (fields, is)
 
   zero_back : (r : Row) → Zero row → RowIs row r → written r ≡ row
-  zero_back r zeros is = ap written (empty_row row r zeros is) ∙ zeros_are 16 row long zeros
+  zero_back r zeros is = ap written (empty_row row r zeros is) ∙ same_number_lists (replicate 16 0) row (sym long) (λ k h. get_or-replicate 16 k 0 0 h ∙ sym (zeros k))
 
   row_back : (number version term : ℕ) (r : Row) → RowIs row r → (kind : Kind) → Uses kind number version term row → written r ≡ row
   row_back number version term r is Ask u = zero_back r u.3 is
@@ -128,7 +130,7 @@ head_of p =
     two (form p.kind).mark (p.from ∷ p.to ∷ p.file ∷ 0 ∷ four p.number (four p.version (two p.term [])))
 
 module _ (head : List ℕ) (long : length head ≡ 16) (fit : (i : ℕ) → get_or head i 0 < 256) where
-  head_back : (p : Parts) (row : List ℕ) → FrameHas head row p → get_or head 5 0 ≡ 0 → head_of p ≡ head
+  head_back : (p : Parts) (row : List ℕ) → FrameHas (head_in head) row p → get_or head 5 0 ≡ 0 → head_of p ≡ head
   head_back p row is gap =
       let m = pair head long fit 0 (form p.kind).mark (sym is.mark_is) in
       let from = is.from_is in

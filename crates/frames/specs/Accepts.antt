@@ -1,9 +1,10 @@
 -- Which frames are lawful, mark by mark. Assumes nothing.
-use Rattle.std.specs.Prelude.{◌≡◌, ℕ, ◌≤◌, List, length, take, drop, None, slice_index, slice_index_or}
-use Rattle.rows.specs.Bytes.{be2, be4}
+use Rattle.std.specs.Prelude.{◌≡◌, ℕ, ◌≤◌, List, length, take, drop, None, slice_index}
 use Rattle.rows.specs.Rows.{row_wrong}
 use Rattle.messages.specs.declared.kind.Kind.{Kind}
 use Rattle.messages.specs.declared.kind.Kind.TheVariants.{Ask, Grant, Recall, Approve, Write, Done}
+use Rattle.frames.specs.declared.head.Head.{Head}
+use Rattle.frames.specs.Heads.{head_in}
 
 -- the two letters AS, GR, RC, AP, WR and DN
 abbrev pub mark : Kind → ℕ
@@ -32,16 +33,16 @@ Uses Approve number version term row = (number ≡ 0) × In 2 15000001 version �
 Uses Write number version term row = In 1 1000000 number × (version ≡ 0) × (term ≡ 0) × Lawful row
 Uses Done number version term row = In 1 1000000 number × (version ≡ 0) × (term ≡ 0) × Zero row
 
--- a lawful frame of a kind, by its first 16 bytes and its row
-pub record Fits (kind : Kind) (head row : List ℕ) : Type 0 where
-  pub marked : be2 head 0 ≡ mark kind
-  pub from_fits : slice_index_or head 2 0 ≤ 15
-  pub to_fits : slice_index_or head 3 0 ≤ 15
-  pub file_fits : slice_index_or head 4 0 ≤ 31
-  pub gap_is : slice_index_or head 5 0 ≡ 0
-  pub uses : Uses kind (be4 head 6) (be4 head 10) (be2 head 14) row
+-- a lawful frame of a kind, by its head and its row
+pub record Fits (kind : Kind) (head : Head) (row : List ℕ) : Type 0 where
+  pub marked : head.mark ≡ mark kind
+  pub from_fits : head.from ≤ 15
+  pub to_fits : head.to ≤ 15
+  pub file_fits : head.file ≤ 31
+  pub gap_is : head.gap ≡ 0
+  pub uses : Uses kind head.number head.version head.term row
 
 pub record LawfulFrame (bs : List ℕ) : Type 0 where
   pub long : length bs ≡ 32
   pub kind : Kind
-  pub fits : Fits kind (take 16 bs) (drop 16 bs)
+  pub fits : Fits kind (head_in (take 16 bs)) (drop 16 bs)

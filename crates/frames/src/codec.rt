@@ -7,6 +7,7 @@ use crate::parts::Parts;
 use crate::reading::read_parts;
 use crate::writing::lay_out;
 use faults::fault::Fault;
+use messages::body::Body;
 use messages::message::Message;
 
 // The bounds of the parts that were read are those of a message.
@@ -18,7 +19,7 @@ fn read_message(bytes: &[u8]) -> Result<Message, Fault>
         from: parts.from,
         to: parts.to,
         file: parts.file,
-        body: parts.body(),
+        body: Body::from(parts),
     })
 }
 
@@ -37,5 +38,5 @@ pub fn encode(message: Message) -> [u8; 32]
     ensures exact { result ≡ framed message }
     ensures back { FrameRead result (Ok message) }
 {
-    lay_out(Parts::of(message))
+    lay_out(Parts::from(message))
 }

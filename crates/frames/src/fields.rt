@@ -1,10 +1,9 @@
-ghost use Rattle.std.specs.Prelude.{◌≡◌};
-ghost use Rattle.frames.specs.Frames.{all_zero, Passed, FieldsPass};
+ghost use Rattle.std.specs.Prelude.{◌≡◌, ◌==◌};
+ghost use Rattle.std.specs.List.{list_all};
+ghost use Rattle.frames.specs.Frames.{Passed, FieldsPass};
 
-use crate::head::{number_in, term_in, version_in};
+use crate::head::Head;
 use faults::fault::Fault;
-use faults::layer::Layer;
-use faults::refusal::Refusal;
 use messages::limits::{LAST_FILE, LAST_NODE};
 use messages::marks::Form;
 
@@ -13,31 +12,28 @@ fn field(place: usize, ok: bool) -> Result<(), Fault>
     ensures { Passed place ok result }
 {
     if ok {
-        return Ok(());
+        Ok(())
+    } else {
+        Err(Fault::frame_field(place))
     }
-    Err(Fault {
-        refusal: Refusal::FrameField,
-        place,
-        layer: Layer::Format,
-    })
 }
 
 fn is_zero(row: &[u8; 16]) -> bool
-    ensures { result ≡ all_zero row.now }
+    ensures { result ≡ list_all (λ b. b == 0) row.now }
 {
-    u128::from_be_bytes(*row) == 0
+    row.iter().all(|&byte| byte == 0)
 }
 
 // The fields in the order of their bytes. A row that the form uses has been judged by the row reader.
-pub(crate) fn check_fields(form: Form, head: &[u8; 16], row: &[u8; 16]) -> Result<(), Fault>
-    ensures { FieldsPass form head.now row.now result }
+pub(crate) fn check_fields(form: Form, head: Head, row: &[u8; 16]) -> Result<(), Fault>
+    ensures { FieldsPass form head row.now result }
 {
-    field(2, head[2] <= LAST_NODE)?;
-    field(3, head[3] <= LAST_NODE)?;
-    field(4, head[4] <= LAST_FILE)?;
-    field(5, head[5] == 0)?;
-    field(6, form.numbers.holds(number_in(head)))?;
-    field(10, form.versions.holds(version_in(head)))?;
-    field(14, form.terms.holds(term_in(head) as u32))?;
+    field(2, head.from <= LAST_NODE)?;
+    field(3, head.to <= LAST_NODE)?;
+    field(4, head.file <= LAST_FILE)?;
+    field(5, head.gap == 0)?;
+    field(6, form.numbers.holds(head.number))?;
+    field(10, form.versions.holds(head.version))?;
+    field(14, form.terms.holds(u32::from(head.term)))?;
     field(16, form.has_row || is_zero(row))
 }

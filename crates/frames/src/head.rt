@@ -1,27 +1,51 @@
-// The numbers in a frame's first 16 bytes, big-endian.
 ghost use Rattle.std.specs.Prelude.{◌≡◌};
-ghost use Rattle.rows.specs.Bytes.{be2, be4};
+ghost use Rattle.frames.specs.Heads.{head_in};
 
-pub(crate) fn mark_in(head: &[u8; 16]) -> u16
-    ensures { result ≡ be2 head.now 0 }
-{
-    u16::from_be_bytes([head[0], head[1]])
+// A frame's first 16 bytes, field by field. The numbers are big-endian.
+#[derive(Clone, Copy)]
+pub(crate) struct Head {
+    pub(crate) mark: u16,
+    pub(crate) from: u8,
+    pub(crate) to: u8,
+    pub(crate) file: u8,
+    // no kind uses this byte
+    pub(crate) gap: u8,
+    pub(crate) number: u32,
+    pub(crate) version: u32,
+    pub(crate) term: u16,
 }
 
-pub(crate) fn number_in(head: &[u8; 16]) -> u32
-    ensures { result ≡ be4 head.now 6 }
-{
-    u32::from_be_bytes([head[6], head[7], head[8], head[9]])
-}
+impl From<&[u8; 16]> for Head {
+    ghost from_gives = { λ bytes head. head ≡ head_in bytes.now };
 
-pub(crate) fn version_in(head: &[u8; 16]) -> u32
-    ensures { result ≡ be4 head.now 10 }
-{
-    u32::from_be_bytes([head[10], head[11], head[12], head[13]])
-}
-
-pub(crate) fn term_in(head: &[u8; 16]) -> u16
-    ensures { result ≡ be2 head.now 14 }
-{
-    u16::from_be_bytes([head[14], head[15]])
+    fn from(bytes: &[u8; 16]) -> Head {
+        let [
+            m0,
+            m1,
+            from,
+            to,
+            file,
+            gap,
+            n0,
+            n1,
+            n2,
+            n3,
+            v0,
+            v1,
+            v2,
+            v3,
+            t0,
+            t1,
+        ] = *bytes;
+        Head {
+            mark: u16::from_be_bytes([m0, m1]),
+            from,
+            to,
+            file,
+            gap,
+            number: u32::from_be_bytes([n0, n1, n2, n3]),
+            version: u32::from_be_bytes([v0, v1, v2, v3]),
+            term: u16::from_be_bytes([t0, t1]),
+        }
+    }
 }

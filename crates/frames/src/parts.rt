@@ -19,23 +19,20 @@ pub(crate) struct Parts {
     pub(crate) row: Row,
 }
 
-impl Parts {
-    // The message's parts.
-    pub(crate) fn of(message: Message) -> Parts
-        ensures { result ≡ parts message }
-    {
+impl From<Message> for Parts {
+    ghost from_gives = { λ message p. p ≡ parts message };
+
+    fn from(message: Message) -> Parts {
         let (number, version, term, row) = match message.body {
-            Body::Ask { number } => (number, 0, 0, Row::Empty),
+            Body::Ask { number } | Body::Done { number } => (number, 0, 0, Row::Empty),
             Body::Grant {
                 number,
                 version,
                 term,
                 row,
             } => (number, version, term, row),
-            Body::Recall { version } => (0, version, 0, Row::Empty),
-            Body::Approve { version } => (0, version, 0, Row::Empty),
+            Body::Recall { version } | Body::Approve { version } => (0, version, 0, Row::Empty),
             Body::Write { number, row } => (number, 0, 0, row),
-            Body::Done { number } => (number, 0, 0, Row::Empty),
         };
         Parts {
             kind: message.kind(),
@@ -48,20 +45,27 @@ impl Parts {
             row,
         }
     }
+}
 
-    // What the parts say, by their kind; a part that the kind doesn't use is left out.
-    pub(crate) fn body(self) -> Body
-        ensures { result ≡ body_of self }
-    {
-        let number = self.number;
-        let version = self.version;
-        let row = self.row;
-        match self.kind {
+// What the parts say, by their kind; a part that the kind doesn't use is left out.
+impl From<Parts> for Body {
+    ghost from_gives = { λ p body. body ≡ body_of p };
+
+    fn from(parts: Parts) -> Body {
+        let Parts {
+            kind,
+            number,
+            version,
+            term,
+            row,
+            ..
+        } = parts;
+        match kind {
             Kind::Ask => Body::Ask { number },
             Kind::Grant => Body::Grant {
                 number,
                 version,
-                term: self.term,
+                term,
                 row,
             },
             Kind::Recall => Body::Recall { version },

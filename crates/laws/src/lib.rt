@@ -4,6 +4,7 @@
 #![tactic(auto)]
 
 pub mod accepts;
+pub mod equality;
 pub mod format;
 pub mod trips;
 pub mod worked;

@@ -3,5 +3,4 @@ pub mod Kinds
 pub mod Messages
 pub mod Marks
 pub mod Equality
-pub mod Same
 pub mod EqualityLaws

@@ -1,10 +1,11 @@
 -- The six marks, and how the frames of each kind look. Assumes nothing.
-use Rattle.std.specs.Prelude.{ℕ, Bool, true, false, cond, List, [], ◌∷◌, Some, None, Option, ◌==◌}
+use Rattle.std.specs.Prelude.{ℕ, Bool, true, false, List, [], ◌∷◌, Option, ◌==◌}
+use Rattle.std.specs.List.{find}
+use Rattle.std.specs.Option.{option_map}
 use Rattle.messages.specs.declared.kind.Kind.{Kind}
 use Rattle.messages.specs.declared.kind.Kind.TheVariants.{Ask, Grant, Recall, Approve, Write, Done}
 use Rattle.messages.specs.declared.marks.Form.{Form}
 use Rattle.messages.specs.declared.limits.Span.{Span}
-use Rattle.messages.specs.Kinds.{number_of_kind}
 
 infixl 20 ◌to◌
 abbrev ◌to◌ : ℕ → ℕ → Span
@@ -20,7 +21,6 @@ abbrev frames_of : Kind → (mark : ℕ) (numbers versions terms : Span) (has_ro
 frames_of kind mark numbers versions terms has_row =
     record {
       kind = kind;
-      kind_number = number_of_kind kind;
       mark = mark;
       numbers = numbers;
       versions = versions;
@@ -39,10 +39,6 @@ form Done = frames_of Done 0x444e numbers unused unused false
 abbrev pub forms : List Form
 forms = form Ask ∷ form Grant ∷ form Recall ∷ form Approve ∷ form Write ∷ form Done ∷ []
 
--- the kind of the first of the forms with the mark
-abbrev pub marked : ℕ → List Form → Option Kind
-marked mark [] = None
-marked mark (f ∷ fs) = cond (f.mark == mark) (Some f.kind) (marked mark fs)
-
+-- the kind of the first form with the mark
 abbrev pub kind_marked : ℕ → Option Kind
-kind_marked mark = marked mark forms
+kind_marked mark = option_map (λ f. f.kind) (find (λ f. f.mark == mark) forms)

@@ -2,13 +2,12 @@ ghost use Rattle.std.specs.Prelude.{◌≡◌};
 ghost use Rattle.messages.specs.Kinds.{number_of_kind, kind_of};
 
 use crate::body::Body;
-use crate::marks::FORMS;
 use crate::message::Message;
 
 // The kinds of message, in the order of their numbers.
-#[derive(Clone, Copy, PartialEq)]
+#[derive(Clone, Copy, Debug, PartialEq, Eq)]
 pub enum Kind {
-    Ask,
+    Ask = 1,
     Grant,
     Recall,
     Approve,
@@ -16,12 +15,12 @@ pub enum Kind {
     Done,
 }
 
-impl Kind {
-    // The number that the kind is told by.
-    pub fn number(self) -> u8
-        ensures { result ≡ number_of_kind self }
-    {
-        FORMS[self as usize].kind_number
+// The number that a kind is told by.
+impl From<Kind> for u8 {
+    ghost from_gives = { λ kind number. number ≡ number_of_kind kind };
+
+    fn from(kind: Kind) -> u8 {
+        kind as u8
     }
 }
 

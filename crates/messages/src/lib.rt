@@ -5,7 +5,6 @@
 #![tactic(auto)]
 
 pub mod body;
-pub mod equality;
 pub mod kind;
 pub mod limits;
 pub mod marks;

@@ -47,7 +47,7 @@ impl Span {
     pub fn holds(self, value: u32) -> bool
         ensures { result ≡ within self.low self.high value }
     {
-        self.low <= value && value <= self.high
+        (self.low..=self.high).contains(&value)
     }
 }
 
@@ -57,17 +57,16 @@ impl Body {
         ensures { result ≡ lawful_body self }
     {
         match self {
-            Body::Ask { number } => NUMBERS.holds(number),
+            Body::Ask { number } | Body::Write { number, .. } | Body::Done { number } => {
+                NUMBERS.holds(number)
+            }
             Body::Grant {
                 number,
                 version,
                 term,
-                row: _,
-            } => NUMBERS.holds(number) && VERSIONS.holds(version) && TERMS.holds(term as u32),
-            Body::Recall { version } => LATER_VERSIONS.holds(version),
-            Body::Approve { version } => LATER_VERSIONS.holds(version),
-            Body::Write { number, row: _ } => NUMBERS.holds(number),
-            Body::Done { number } => NUMBERS.holds(number),
+                ..
+            } => NUMBERS.holds(number) && VERSIONS.holds(version) && TERMS.holds(u32::from(term)),
+            Body::Recall { version } | Body::Approve { version } => LATER_VERSIONS.holds(version),
         }
     }
 }

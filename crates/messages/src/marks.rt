@@ -1,14 +1,15 @@
-ghost use Rattle.std.specs.Prelude.{◌≡◌};
+ghost use Rattle.std.specs.Prelude.{◌≡◌, Some, None, MatchResult};
+ghost use Rattle.faults.specs.Refusals.{unknown_frame};
 ghost use Rattle.messages.specs.Marks.{form, kind_marked};
 
 use crate::kind::Kind;
 use crate::limits::{LATER_VERSIONS, NUMBERS, Span, TERMS, UNUSED, VERSIONS};
+use faults::fault::Fault;
 
 // How the frames of one kind look: their mark, and the bounds of the fields that not all kinds use.
 #[derive(Clone, Copy)]
 pub struct Form {
     pub kind: Kind,
-    pub kind_number: u8,
     pub mark: u16,
     pub numbers: Span,
     pub versions: Span,
@@ -20,7 +21,6 @@ pub struct Form {
 pub const FORMS: [Form; 6] = [
     Form {
         kind: Kind::Ask,
-        kind_number: 1,
         mark: 0x4153,
         numbers: NUMBERS,
         versions: UNUSED,
@@ -29,7 +29,6 @@ pub const FORMS: [Form; 6] = [
     },
     Form {
         kind: Kind::Grant,
-        kind_number: 2,
         mark: 0x4752,
         numbers: NUMBERS,
         versions: VERSIONS,
@@ -38,7 +37,6 @@ pub const FORMS: [Form; 6] = [
     },
     Form {
         kind: Kind::Recall,
-        kind_number: 3,
         mark: 0x5243,
         numbers: UNUSED,
         versions: LATER_VERSIONS,
@@ -47,7 +45,6 @@ pub const FORMS: [Form; 6] = [
     },
     Form {
         kind: Kind::Approve,
-        kind_number: 4,
         mark: 0x4150,
         numbers: UNUSED,
         versions: LATER_VERSIONS,
@@ -56,7 +53,6 @@ pub const FORMS: [Form; 6] = [
     },
     Form {
         kind: Kind::Write,
-        kind_number: 5,
         mark: 0x5752,
         numbers: NUMBERS,
         versions: UNUSED,
@@ -65,7 +61,6 @@ pub const FORMS: [Form; 6] = [
     },
     Form {
         kind: Kind::Done,
-        kind_number: 6,
         mark: 0x444e,
         numbers: NUMBERS,
         versions: UNUSED,
@@ -79,18 +74,23 @@ impl Kind {
     pub fn form(self) -> Form
         ensures { result ≡ form self }
     {
-        FORMS[self as usize]
+        FORMS[self as usize - 1]
     }
+}
 
-    // The kind with a mark.
-    pub fn marked(mark: u16) -> Option<Kind>
-        ensures { result ≡ kind_marked mark }
-    {
-        for form in FORMS {
-            if form.mark == mark {
-                return Some(form.kind);
-            }
-        }
-        None
+// The kind with a mark.
+impl TryFrom<u16> for Kind {
+    type Error = Fault;
+
+    ghost try_from_gives = { λ mark found. MatchResult found
+        (λ kind. kind_marked mark ≡ Some kind)
+        (λ fault. (kind_marked mark ≡ None) × (fault ≡ unknown_frame)) };
+
+    fn try_from(mark: u16) -> Result<Kind, Fault> {
+        let form = FORMS
+            .iter()
+            .find(|form| form.mark == mark)
+            .ok_or(Fault::unknown_frame())?;
+        Ok(form.kind)
     }
 }

@@ -9,10 +9,10 @@ invariant_of-result c =
     record {
       nodes = nodes_held bs p read.0 read.1;
       files = file_held bs p read.0 read.1;
-      lawful = body_held bs p read.0 read.1 c.body.result c.body.ensures;
+      lawful = body_held bs p read.0 read.1 c.from.result c.from.ensures;
     }
 
 pub returns : goal.returns
 returns c =
     let read = c.in_ok-parts.ensures in
-    (read.0, parts_held c.args.bytes.now c.in_ok-parts.parts read.0 read.1 c.body.result c.body.ensures)
+    (read.0, parts_held c.args.bytes.now c.in_ok-parts.parts read.0 read.1 c.from.result c.from.ensures)
