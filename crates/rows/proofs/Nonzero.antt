@@ -1,6 +1,7 @@
 -- Where the first byte that isn't zero stands, and what it means to find none. Assumes nothing.
-use Rattle.std.proofs.Common.{◌≡◌, ℕ, zero, suc, ◌+◌, Bool, true, false, cond, not, eqb, List, [], ◌∷◌, get_or, drop, Some, None, Option, sym, refl, ap, ◌∙◌, arith, get_or-drop}
+use Rattle.std.proofs.Common.{◌≡◌, ℕ, zero, suc, ◌+◌, Bool, true, false, cond, not, eqb, List, [], ◌∷◌, length, get_or, drop, replicate, Some, None, Option, sym, refl, ap, ◌∙◌, arith, get_or-drop}
 use Rattle.std.specs.Option.{option_map}
+use Rattle.std.proofs.lemmas.List.{ext_get_or, length-replicate, get_or-replicate}
 use Rattle.std.proofs.lemmas.Bool.Decides.{nat_tests}
 use Rattle.rows.specs.Bytes.{first_nonzero}
 
@@ -31,3 +32,8 @@ all_zero i (b ∷ bs) e (suc k) =
 -- where none is found from n on, all from n on are zero
 pub zero_from : (n : ℕ) (bs : List ℕ) → first_nonzero n (drop n bs) ≡ None → (k : ℕ) → get_or bs (n + k) 0 ≡ 0
 zero_from n bs e k = sym (get_or-drop n bs k 0) ∙ all_zero n (drop n bs) e k
+
+pub zeros_are : (n : ℕ) (bs : List ℕ) → length bs ≡ n → ((i : ℕ) → get_or bs i 0 ≡ 0) → replicate n 0 ≡ bs
+zeros_are n bs long zeros =
+    let as_long : length (replicate n 0) ≡ n = length-replicate {A = ℕ} n 0 in
+    ext_get_or 0 (replicate n 0) bs (as_long ∙ sym long) (λ i below. get_or-replicate n i 0 0 (omega (arith, below, as_long)) ∙ sym (zeros i))

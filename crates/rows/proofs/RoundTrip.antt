@@ -1,10 +1,10 @@
 -- What is written reads back the same, and what is read was written so. Assumes nothing.
-use Rattle.std.proofs.Common.{◌≡◌, ℕ, ◌+◌, ◌*◌, ◌/◌, ◌%◌, ◌^◌, ◌<◌, ◌≤◌, Bool, true, false, ◌&&◌, eqb, leb, List, length, get_or, drop, ℤ, pos, negsuc, ◌≤ℤ◌, IfOk, None, Ok, Err, Option, Result, sym, refl, ap, ◌∙◌, subst, arith, w32, SFits, to_z, of_z, eq-eqb}
-use native.Mathlib.Nat.{div-div-eq-div-mul}
+use Rattle.std.proofs.Common.{◌≡◌, ℕ, zero, suc, ◌+◌, ◌*◌, ◌/◌, ◌%◌, ◌^◌, ◌<◌, ◌≤◌, Bool, true, false, ◌&&◌, eqb, leb, List, length, get_or, drop, ℤ, pos, negsuc, ◌≤ℤ◌, IfOk, None, Ok, Err, Option, Result, sym, refl, ap, ◌∙◌, subst, arith, w32, SFits, to_z, of_z, eq-eqb}
 use lib.Lanes.{pick_l}
 use lib.Signed.{le_z}
 use Rattle.std.specs.List.{range_with_len}
-use Rattle.std.proofs.lemmas.Nat.{div-add-mod'}
+use Rattle.std.proofs.lemmas.Nat.{from_be_bytes-to_be_bytes_4}
+use Rattle.std.proofs.lemmas.Option.{none-some}
 use Rattle.std.proofs.lemmas.Simd.{pick_l_whole}
 use Rattle.std.proofs.lemmas.Int.{ints, to_z-of_z, of_z-to_z}
 use Rattle.std.proofs.lemmas.Bool.Decides.{nat_tests}
@@ -14,8 +14,8 @@ use Rattle.rows.specs.declared.tuning.TuningRow.{TuningRow}
 use Rattle.rows.specs.declared.row.Row.{Row}
 use Rattle.rows.specs.declared.row.Row.TheVariants.{Empty, Pass, Tuning}
 use Rattle.rows.specs.Bytes.{be2, be4, first_nonzero}
-use Rattle.rows.specs.Rows.{field, within, pass_wrong, tuning_wrong, PassIs, TuningIs, long_enough, FieldsRead, RowRead, RowIs, written}
-use Rattle.rows.proofs.Nonzero.{zero_from}
+use Rattle.rows.specs.Rows.{field, within, pass_wrong, tuning_wrong, PassIs, TuningIs, long_enough, FieldsRead, RowRead, RowIs, row_wrong, written}
+use Rattle.rows.proofs.Nonzero.{zero_from, zeros_are}
 use Rattle.rows.proofs.Same.{same_pass, same_tuning}
 
 -- two bytes, and four, put together again
@@ -23,11 +23,7 @@ pub whole2 : (n : ℕ) → n ≤ 65535 → n / 256 % 256 * 256 + n % 256 ≡ n
 whole2 n h = omega arith
 
 pub whole4 : (n : ℕ) → n < 2 ^ 32 → n / 16777216 % 256 * 16777216 + n / 65536 % 256 * 65536 + n / 256 % 256 * 256 + n % 256 ≡ n
-whole4 n h =
-    let e1 : n / 65536 ≡ n / 256 / 256 = sym (div-div-eq-div-mul n 256 256) in
-    let e2 : n / 16777216 ≡ n / 256 / 256 / 256 = sym (div-div-eq-div-mul (n / 256) 256 256 ∙ div-div-eq-div-mul n 256 65536) in
-    let top : n / 256 / 256 ≤ 65535 = omega arith in
-    rw (e2, e1) (omega (arith, whole2 (n / 256 / 256) top, div-add-mod' n 256, div-add-mod' (n / 256) 256))
+whole4 = from_be_bytes-to_be_bytes_4
 
 pub offset_fits : (z : ℤ) → negsuc 199999 ≤ℤ z → z ≤ℤ pos 200000 → SFits w32 z
 offset_fits (pos n) low high = record { sfits = omega (arith, ints) }
@@ -69,14 +65,12 @@ pub read_forth : (bs : List ℕ) (row : Row) (r : Result Row Fault) → written 
 read_forth bs row (Ok other) e (none, is) =
     ap Ok (reads_one bs other row is (subst (λ (xs : List ℕ). RowIs xs row) e (read_written row).1))
 read_forth bs row (Err fault) e (place, wrong, told) =
-    let none = (read_written row).0 in
-    let z : ◌≡◌ {A = ℕ} 0 1 = cc in
-    absurd (omega arith)
+    absurd (none-some place (sym (read_written row).0 ∙ ap row_wrong e ∙ wrong))
 
 -- a field that told nothing was in order, and so are those after it
 passed : (place : ℕ) (ok : Bool) (rest : Option ℕ) → field place ok rest ≡ None → rest ≡ None
 passed place true rest e = e
-passed place false rest e = let z : ◌≡◌ {A = ℕ} 0 1 = cc in absurd (omega arith)
+passed place false rest e = absurd (none-some place (sym e))
 
 module _ (bs : List ℕ) (long : length bs ≡ 16) (fit : (i : ℕ) → get_or bs i 0 < 256) where
   pub same : (xs : List ℕ) → xs ≡ pick_l 0 bs (range_with_len 0 16) → xs ≡ bs
@@ -129,31 +123,15 @@ module _ (bs : List ℕ) (long : length bs ≡ 16) (fit : (i : ℕ) → get_or b
       let o = quad 7 (of_z w32 t.offset) (ap (of_z w32) is.offset_is ∙ of_z-to_z w32 (be4 bs 7) w) in
       same (written (Tuning t)) (cc)
 
-  empty_back : get_or bs 0 0 ≡ 0 → first_nonzero 1 (drop 1 bs) ≡ None → written Empty ≡ bs
-  empty_back kind none =
-      let zero = zero_from 1 bs none in
-      let z1 = zero 0 in
-      let z2 = zero 1 in
-      let z3 = zero 2 in
-      let z4 = zero 3 in
-      let z5 = zero 4 in
-      let z6 = zero 5 in
-      let z7 = zero 6 in
-      let z8 = zero 7 in
-      let z9 = zero 8 in
-      let z10 = zero 9 in
-      let z11 = zero 10 in
-      let z12 = zero 11 in
-      let z13 = zero 12 in
-      let z14 = zero 13 in
-      let z15 = zero 14 in
-      same (written Empty) (cc)
+  all_zero : get_or bs 0 0 ≡ 0 → first_nonzero 1 (drop 1 bs) ≡ None → (i : ℕ) → get_or bs i 0 ≡ 0
+  all_zero kind none zero = kind
+  all_zero kind none (suc k) = let next : suc k ≡ 1 + k = omega arith in ap (λ n. get_or bs n 0) next ∙ zero_from 1 bs none k
 
   -- what is read from 16 bytes is written as those bytes
   written_back : (row : Row) → FieldsRead bs (Ok row) → written row ≡ bs
   written_back Empty (none, kind) =
       let rest : first_nonzero 1 (drop 1 bs) ≡ None = grind (arith, nat_tests) in
-      empty_back kind rest
+      zeros_are 16 bs long (all_zero kind rest)
   written_back (Pass p) (none, is) =
       let rest : pass_wrong bs ≡ None = grind (arith, nat_tests) in
       pass_back p is.0 rest is.1
