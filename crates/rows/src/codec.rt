@@ -31,6 +31,8 @@ fn by_kind(bytes: &[u8; 16]) -> Result<Row, Fault>
     }
 }
 
+// Named as the library names the reading and writing of numbers, `from_be_bytes` and `to_be_bytes`; a `TryFrom` would
+// hide in one member what the three clauses say.
 impl Row {
     // The row that the bytes hold, or the byte of its first wrong field.
     pub fn from_bytes(bytes: &[u8]) -> Result<Row, Fault>
@@ -49,50 +51,20 @@ impl Row {
         match self {
             Row::Empty => [0; 16],
             Row::Pass(p) => {
+                let (kind, antenna) = (PassRow::KIND, p.antenna);
                 let [s0, s1] = p.satellite.to_be_bytes();
                 let [t0, t1, t2, t3] = p.start.to_be_bytes();
                 let [l0, l1] = p.seconds.to_be_bytes();
                 [
-                    PassRow::KIND,
-                    s0,
-                    s1,
-                    p.antenna,
-                    t0,
-                    t1,
-                    t2,
-                    t3,
-                    l0,
-                    l1,
-                    0,
-                    0,
-                    0,
-                    0,
-                    0,
-                    0,
+                    kind, s0, s1, antenna, t0, t1, t2, t3, l0, l1, 0, 0, 0, 0, 0, 0,
                 ]
             }
             Row::Tuning(t) => {
+                let kind = TuningRow::KIND;
                 let [s0, s1] = t.satellite.to_be_bytes();
                 let [d0, d1, d2, d3] = t.downlink.to_be_bytes();
                 let [o0, o1, o2, o3] = t.offset.to_be_bytes();
-                [
-                    TuningRow::KIND,
-                    s0,
-                    s1,
-                    d0,
-                    d1,
-                    d2,
-                    d3,
-                    o0,
-                    o1,
-                    o2,
-                    o3,
-                    0,
-                    0,
-                    0,
-                    0,
-                    0,
-                ]
+                [kind, s0, s1, d0, d1, d2, d3, o0, o1, o2, o3, 0, 0, 0, 0, 0]
             }
         }
     }
