@@ -30,7 +30,7 @@ pub fn version_after(effects: u32) -> u64
     ensures promise { Once sound (List ℕ) }
     ensures after { VersionAfter sound (List ℕ) effects result }
 {
-    let version = effects as u64 + 1;
+    let version = u64::from(effects) + 1;
     once(effects, version);
     version
 }
@@ -41,7 +41,7 @@ pub fn longest_wait(longest_term: u32, primary_bound: u32) -> u64
     ensures below { WaitsBelow sound (List ℕ) longest_term primary_bound result }
     ensures reached { 0 < longest_term → Waited sound (List ℕ) [] longest_term primary_bound (result - 1) }
 {
-    let ticks = longest_term as u64 + 2 * primary_bound as u64;
+    let ticks = u64::from(longest_term) + 2 * u64::from(primary_bound);
     bounded_wait(longest_term, primary_bound, ticks);
     ticks
 }

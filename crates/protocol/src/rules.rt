@@ -20,7 +20,7 @@ pub fn margin(station_bound: u32, parent_bound: u32) -> u64
     ensures least { LeastMargin (List ℕ) [] station_bound parent_bound result }
     ensures three { Broken narrow_margin (List ℕ) [] }
 {
-    let least = 2 * station_bound as u64 + 2 * parent_bound as u64;
+    let least = 2 * u64::from(station_bound) + 2 * u64::from(parent_bound);
     smaller_margin_breaks(station_bound, parent_bound, least);
     least
 }
