@@ -5,3 +5,4 @@ pub mod Marks
 pub mod Equality
 pub mod Same
 pub mod EqualityLaws
+pub mod Words

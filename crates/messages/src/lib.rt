@@ -10,3 +10,4 @@ pub mod kind;
 pub mod limits;
 pub mod marks;
 pub mod message;
+pub mod words;
