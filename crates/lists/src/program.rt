@@ -17,7 +17,8 @@ pub trait Program {
         ensures { IfOk result (answers bytes.now) };
 }
 
-// Reads all of the input, and prints the program's answer.
+// Reads all of the input, and prints the program's answer. No clause can tell which bytes reach the system: what the
+// programs write on their standard input stands beside them.
 pub fn run<P: Program>(rt: &(impl Input + Print + AllocGlobal)) -> io::Result<()> {
     let mut bytes = Vec::new(rt.alloc());
     rt.reader().read_to_end(&mut bytes)?;
