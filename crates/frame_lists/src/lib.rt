@@ -1,7 +1,4 @@
 // Frame lists: frames one after the other in one run of bytes, told line by line.
 #![tactic(auto)]
 
-pub mod line;
 pub mod list;
-pub mod listing;
-pub mod words;

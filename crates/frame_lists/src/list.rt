@@ -1,55 +1,60 @@
-ghost use Rattle.std.specs.Prelude.{◌≡◌, ◌<◌, IfOk};
+ghost use Rattle.std.specs.Prelude.{codes, IfOk};
+ghost use Rattle.std.proofs.Common.{rules};
 ghost use Rattle.frames.specs.Frames.{FrameRead};
-ghost use Rattle.frame_lists.specs.Lists.{frame_count, frame_bytes, faulty, Listed};
+ghost use Rattle.lists.specs.Lists.{Listed};
 
-use crate::line::Line;
-use crate::listing::Listing;
 use faults::fault::Fault;
 use frames::codec::decode;
+use lists::listing::Listing;
+use lists::program::Program;
+use lists::reader::Reader;
 use messages::message::Message;
 use std::alloc::{AllocError, Global};
 
-const FRAME_BYTES: usize = 32;
+// How the frames of a list are read: each for itself.
+pub struct Frames;
 
-// Reads the frame at `index`, counted from 0.
-fn read_at(list: &[u8], index: usize) -> Result<Message, Fault>
-    requires { index < frame_count list.now }
-    ensures { FrameRead (frame_bytes list.now index) result }
-{
-    let start = FRAME_BYTES * index;
-    decode(&list[start..start + FRAME_BYTES])
-}
+impl Reader for Frames {
+    type Record = Message;
 
-impl Line {
-    // 1 where the frame was refused.
-    fn faults(&self) -> usize
-        ensures { result ≡ faulty self.now }
-    {
-        match self.frame {
-            Ok(_) => 0,
-            Err(_) => 1,
-        }
+    const BYTES: usize = 32;
+
+    ghost BYTES = { 32 };
+
+    ghost reads = { λ _. FrameRead };
+
+    ghost noun = { codes "frame" };
+
+    ghost list_noun = { codes "list" };
+
+    fn read(&self, bytes: &[u8]) -> Result<Message, Fault> {
+        decode(bytes)
     }
+
+    fn noun() -> &'static str {
+        "frame"
+    }
+
+    fn list_noun() -> &'static str {
+        "list"
+    }
+
+    ghost some_bytes = { Prim.search rules };
 }
 
 // Reads a list of frames: any bytes, of any number.
-pub fn list_frames(heap: Global, list: &[u8]) -> Result<Listing, AllocError>
-    ensures { IfOk result (Listed list.now) }
+pub fn list_frames(heap: Global, list: &[u8]) -> Result<Listing<Frames>, AllocError>
+    ensures { IfOk result (Listed FrameRead 32 list.now) }
 {
-    let frames = list.len() / FRAME_BYTES;
-    let mut lines = Vec::with_capacity(heap, frames)?;
-    let mut faults = 0;
-    for index in 0..frames {
-        let line = Line {
-            number: index + 1,
-            frame: read_at(list, index),
-        };
-        faults += line.faults();
-        lines.push_reserved(line);
+    Listing::read(heap, &Frames, list)
+}
+
+impl Program for Frames {
+    type Answer = Listing<Frames>;
+
+    ghost answers = { Listed FrameRead 32 };
+
+    fn answer(heap: Global, bytes: &[u8]) -> Result<Listing<Frames>, AllocError> {
+        list_frames(heap, bytes)
     }
-    Ok(Listing {
-        lines,
-        faults,
-        left_over: list.len() % FRAME_BYTES,
-    })
 }

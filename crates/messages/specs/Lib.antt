@@ -4,3 +4,4 @@ pub mod Messages
 pub mod Marks
 pub mod Equality
 pub mod EqualityLaws
+pub mod Words

@@ -9,3 +9,4 @@ pub mod kind;
 pub mod limits;
 pub mod marks;
 pub mod message;
+pub mod words;

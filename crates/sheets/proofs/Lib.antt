@@ -1,3 +1,1 @@
-mod Rows
-mod FirstTunings
-mod Lines
+pub mod FirstTunings

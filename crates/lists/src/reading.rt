@@ -1,0 +1,37 @@
+ghost use Rattle.std.specs.Prelude.{◌≡◌, IfOk, count_by};
+ghost use Rattle.lists.specs.Lists.{Listed, refused};
+
+use crate::line::Line;
+use crate::listing::Listing;
+use crate::reader::Reader;
+use std::alloc::{AllocError, Global};
+
+// How many of the records were refused.
+fn faults_in<R: Reader>(lines: &[Line<R>]) -> usize
+    ensures { result ≡ count_by refused lines.now }
+{
+    lines.iter().filter(|line| line.found.is_err()).count()
+}
+
+impl<R: Reader> Listing<R> {
+    // Reads the records in a run of bytes: any bytes, of any number.
+    pub fn read(heap: Global, reader: &R, bytes: &[u8]) -> Result<Listing<R>, AllocError>
+        ensures { IfOk result (Listed (R.reads reader.now) R.BYTES bytes.now) }
+    {
+        let records = bytes.chunks_exact(R::BYTES);
+        let left_over = records.remainder().len();
+        let mut lines = Vec::with_capacity(heap, records.len())?;
+        for (index, record) in records.enumerate() {
+            lines.push_reserved(Line {
+                number: index + 1,
+                found: reader.read(record),
+            });
+        }
+        let faults = faults_in(lines.as_slice());
+        Ok(Listing {
+            lines,
+            faults,
+            left_over,
+        })
+    }
+}
