@@ -43,10 +43,10 @@ impl Reader for Frames {
 }
 
 // Reads a list of frames: any bytes, of any number.
-pub fn list_frames(heap: Global, list: &[u8]) -> Result<Listing<Frames>, AllocError>
+pub fn list_frames(alloc: Global, list: &[u8]) -> Result<Listing<Frames>, AllocError>
     ensures { IfOk result (Listed FrameRead 32 list.now) }
 {
-    Listing::read(heap, &Frames, list)
+    Listing::read(alloc, &Frames, list)
 }
 
 impl Program for Frames {
@@ -54,7 +54,7 @@ impl Program for Frames {
 
     ghost answers = { Listed FrameRead 32 };
 
-    fn answer(heap: Global, bytes: &[u8]) -> Result<Listing<Frames>, AllocError> {
-        list_frames(heap, bytes)
+    fn answer(alloc: Global, bytes: &[u8]) -> Result<Listing<Frames>, AllocError> {
+        list_frames(alloc, bytes)
     }
 }

@@ -13,7 +13,7 @@ pub trait Program {
     ghost answers: { List ℕ → Self.Answer → Type 0 };
 
     // The answer to the bytes.
-    fn answer(heap: Global, bytes: &[u8]) -> Result<Self::Answer, AllocError>
+    fn answer(alloc: Global, bytes: &[u8]) -> Result<Self::Answer, AllocError>
         ensures { IfOk result (answers bytes.now) };
 }
 

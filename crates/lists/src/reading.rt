@@ -15,12 +15,12 @@ fn faults_in<R: Reader>(lines: &[Line<R>]) -> usize
 
 impl<R: Reader> Listing<R> {
     // Reads the records in a run of bytes: any bytes, of any number.
-    pub fn read(heap: Global, reader: &R, bytes: &[u8]) -> Result<Listing<R>, AllocError>
+    pub fn read(alloc: Global, reader: &R, bytes: &[u8]) -> Result<Listing<R>, AllocError>
         ensures { IfOk result (Listed (R.reads reader.now) R.BYTES bytes.now) }
     {
         let records = bytes.chunks_exact(R::BYTES);
         let left_over = records.remainder().len();
-        let mut lines = Vec::with_capacity(heap, records.len())?;
+        let mut lines = Vec::with_capacity(alloc, records.len())?;
         for (index, record) in records.enumerate() {
             lines.push_reserved(Line {
                 number: index + 1,

@@ -21,10 +21,10 @@ pub struct Rows {
 
 impl Rows {
     // The rows of this sheet.
-    pub(crate) fn of(heap: Global, sheet: &[u8]) -> Result<Rows, AllocError>
+    pub(crate) fn of(alloc: Global, sheet: &[u8]) -> Result<Rows, AllocError>
         ensures { IfOk result (λ rows. FirstTunings sheet.now (row_count sheet.now) rows.first_tuning.items) }
     {
-        let first_tuning = vec![in heap; None; SATELLITES]?;
+        let first_tuning = vec![in alloc; None; SATELLITES]?;
         let mut rows = Rows { first_tuning };
         for (index, bytes) in sheet.chunks_exact(ROW_BYTES).enumerate() {
             rows.note(index + 1, Row::from_bytes(bytes));
@@ -37,7 +37,7 @@ impl Rows {
         ensures { self.new.first_tuning.items ≡ noted self.old.first_tuning.items number row }
     {
         if let Ok(Row::Tuning(tuning)) = row {
-            let satellite = tuning.satellite as usize;
+            let satellite = usize::from(tuning.satellite);
             if self.first_tuning[satellite].is_none() {
                 self.first_tuning[satellite] = Some(number);
             }
@@ -61,7 +61,7 @@ impl Reader for Rows {
     fn read(&self, bytes: &[u8]) -> Result<Finding, Fault> {
         Ok(match Row::from_bytes(bytes)? {
             Row::Empty => Finding::Empty,
-            Row::Pass(pass) => Finding::Pass(pass, self.first_tuning[pass.satellite as usize]),
+            Row::Pass(pass) => Finding::Pass(pass, self.first_tuning[usize::from(pass.satellite)]),
             Row::Tuning(tuning) => Finding::Tuning(tuning),
         })
     }

@@ -20,10 +20,10 @@ fn untuned_in(lines: &[Line<Rows>]) -> usize
 }
 
 // Checks a sheet of rows: any bytes, of any number.
-pub fn check_sheet(heap: Global, sheet: &[u8]) -> Result<Report, AllocError>
+pub fn check_sheet(alloc: Global, sheet: &[u8]) -> Result<Report, AllocError>
     ensures { IfOk result (Checked sheet.now) }
 {
-    let rows = Listing::read(heap, &Rows::of(heap, sheet)?, sheet)?;
+    let rows = Listing::read(alloc, &Rows::of(alloc, sheet)?, sheet)?;
     let untuned = untuned_in(rows.lines.as_slice());
     Ok(Report { rows, untuned })
 }
@@ -33,7 +33,7 @@ impl Program for Report {
 
     ghost answers = { Checked };
 
-    fn answer(heap: Global, bytes: &[u8]) -> Result<Report, AllocError> {
-        check_sheet(heap, bytes)
+    fn answer(alloc: Global, bytes: &[u8]) -> Result<Report, AllocError> {
+        check_sheet(alloc, bytes)
     }
 }
