@@ -1,5 +1,5 @@
 -- A frame has no fault exactly where it is lawful by its mark. Assumes nothing.
-use Rattle.std.proofs.Common.{rules, ◌≡◌, ℕ, ◌≤◌, Bool, true, cond, ◌||◌, eqb, List, length, take, drop, is_ok, Some, None, Ok, Err, Decides, Option, Result, sym, refl, ap, ◌∙◌, arith, eq-eqb, eqb-true}
+use Rattle.std.proofs.Common.{rules, ◌≡◌, ℕ, ◌≤◌, Bool, true, cond, ◌||◌, eqb, List, length, take, drop, is_ok, Some, None, Ok, Err, Decides, Option, Result, refl, ap, ◌∙◌, arith, eq-eqb, eqb-true}
 use Rattle.std.specs.List.{list_all}
 use Rattle.std.proofs.lemmas.Bool.Decides.{nat_tests}
 use Rattle.faults.specs.declared.fault.Fault.{Fault}
@@ -55,20 +55,21 @@ module _ (head : Head) (row : List ℕ) where
   no_halves_fault kind fits =
       let known = ap kind_marked fits.marked ∙ kind_found kind in
       let wrong = none_wrong (form kind) (keeps_fitting kind fits) in
-      ap (λ (o : Option Kind). marked_fault o head row) known ∙ (λ i. first_fault (used_fitting kind fits i) (fault_at wrong_at (wrong i)))
+      let used = used_fitting kind fits in
+      grind arith
 
   fits_kind : (kind : Kind) → head.mark ≡ mark kind → halves_fault head row ≡ None → Fits kind head row
   fits_kind kind marked none =
       let known = ap kind_marked marked ∙ kind_found kind in
-      let both = first_none (row_fault (form kind) row) (fault_at wrong_at (fields_wrong (form kind) head row)) (sym (ap (λ (o : Option Kind). marked_fault o head row) known) ∙ none) in
+      let whole : marked_fault (Some kind) head row ≡ None = cc in
+      let both = first_none (row_fault (form kind) row) (fault_at wrong_at (fields_wrong (form kind) head row)) whole in
       let used = both.0 in
       let k = keeps (form kind) (nowhere wrong_at (fields_wrong (form kind) head row) both.1) in
       search (rules, each_zero, nowhere)
 
   fits_some : (o : Option Kind) → kind_marked head.mark ≡ o → marked_fault o head row ≡ None → (kind : Kind) × Fits kind head row
   fits_some None is e = absurd (grind arith)
-  fits_some (Some kind) is e =
-      (kind, fits_kind kind (mark_found head.mark kind is) (ap (λ (o : Option Kind). marked_fault o head row) is ∙ e))
+  fits_some (Some kind) is e = (kind, fits_kind kind (mark_found head.mark kind is) (grind arith))
 
 module _ (bs : List ℕ) where
   halves_part : frame_fault bs ≡ None → (eqb (length bs) 32 ≡ true) × (halves_fault (head_in (take 16 bs)) (drop 16 bs) ≡ None)
@@ -87,8 +88,9 @@ module _ (bs : List ℕ) where
 
   pub no_fault : LawfulFrame bs → frame_fault bs ≡ None
   no_fault l =
-      ap (λ b. cond b (halves_fault (head_in (take 16 bs)) (drop 16 bs)) (Some unknown_frame)) (eq-eqb (length bs) 32 l.long)
-      ∙ no_halves_fault (head_in (take 16 bs)) (drop 16 bs) l.kind l.fits
+      let long = eq-eqb (length bs) 32 l.long in
+      let none = no_halves_fault (head_in (take 16 bs)) (drop 16 bs) l.kind l.fits in
+      cc
 
 -- reading a frame decides whether it is lawful
 pub decides : (bs : List ℕ) (r : Result Message Fault) → FrameRead bs r → Decides (is_ok r) (LawfulFrame bs)
