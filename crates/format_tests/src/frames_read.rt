@@ -3,8 +3,10 @@ use faults::layer::Layer;
 use faults::refusal::Refusal;
 use frames::codec::{decode, encode};
 use laws::accepts::accepts;
+use laws::equality::{same_body, same_message};
 use laws::frame_trips::{decode_back, encode_back};
 use messages::body::Body;
+use messages::kind::Kind;
 use messages::message::Message;
 use rows::pass::PassRow;
 use rows::row::Row;
@@ -76,7 +78,17 @@ fn the_worked_frames_read_and_write(rt: HostRuntime) -> Result<(), Fail> {
     assert!(rt; decode_back(write) == Ok(write));
     assert!(rt; encode_back(&RECALL) == Ok(RECALL));
     assert!(rt; accepts(&GRANT));
+    assert!(rt; same_message(write, write) && !same_message(write, ask));
+    assert!(rt; same_body(grant.body, grant.body) && !same_body(grant.body, write.body));
     Ok(())
+}
+
+#[test]
+fn a_kind_is_told_by_its_number_and_its_mark(rt: HostRuntime) {
+    assert_eq!(rt; u8::from(Kind::Ask), 1);
+    assert_eq!(rt; u8::from(Kind::Done), 6);
+    assert!(rt; Kind::try_from(0x4752) == Ok(Kind::Grant));
+    assert!(rt; Kind::try_from(0x4753) == Err(Fault::unknown_frame()));
 }
 
 #[test]

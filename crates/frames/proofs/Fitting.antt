@@ -1,35 +1,31 @@
 -- A frame has no fault exactly where it is lawful by its mark. Assumes nothing.
-use Rattle.std.proofs.Common.{◌≡◌, ℕ, ◌≤◌, Bool, true, cond, ◌||◌, eqb, List, length, take, drop, is_ok, Some, None, Ok, Err, Decides, Option, Result, sym, refl, ap, ◌∙◌, arith, eq-eqb, eqb-true}
+use Rattle.std.proofs.Common.{rules, ◌≡◌, ℕ, ◌≤◌, Bool, true, cond, ◌||◌, eqb, List, length, take, drop, is_ok, Some, None, Ok, Err, Decides, Option, Result, refl, ap, ◌∙◌, arith, eq-eqb, eqb-true}
 use Rattle.std.specs.List.{list_all}
 use Rattle.std.proofs.lemmas.Bool.Decides.{nat_tests}
 use Rattle.faults.specs.declared.fault.Fault.{Fault}
-use Rattle.faults.specs.Refusals.{unlawful_at, unknown_frame, wrong_at}
-use Rattle.rows.specs.Rows.{row_wrong}
+use Rattle.faults.specs.Refusals.{unknown_frame, wrong_at}
 use Rattle.messages.specs.declared.kind.Kind.{Kind}
-use Rattle.messages.specs.declared.kind.Kind.TheVariants.{Ask, Grant, Recall, Approve, Write, Done}
 use Rattle.messages.specs.declared.marks.Form.{Form}
 use Rattle.messages.specs.declared.message.Message.{Message}
 use Rattle.messages.specs.Marks.{form, kind_marked}
 use Rattle.frames.specs.declared.head.Head.{Head}
 use Rattle.frames.specs.Heads.{head_in}
-use Rattle.frames.specs.Accepts.{mark, In, Uses, Fits, LawfulFrame}
+use Rattle.frames.specs.Accepts.{mark, In, Fits, LawfulFrame}
 use Rattle.frames.specs.Frames.{fault_at, first_fault, fields_wrong, row_fault, marked_fault, halves_fault, frame_fault, FrameRead}
 use Rattle.frames.proofs.OneMark.{kind_found, mark_found}
 use Rattle.frames.proofs.Zeros.{each_zero, zero_all}
 
 first_none : (a b : Option Fault) → first_fault a b ≡ None → (a ≡ None) × (b ≡ None)
-first_none None b e = (refl, e)
-first_none (Some fault) b e = absurd (grind arith)
+first_none a b e = grind arith
 
 pub nowhere : (fault : ℕ → Fault) (place : Option ℕ) → fault_at fault place ≡ None → place ≡ None
-nowhere fault None e = refl
-nowhere fault (Some place) e = absurd (grind arith)
+nowhere fault place e = grind arith
 
 not_unknown : (ok : Bool) (rest : Option Fault) → cond ok rest (Some unknown_frame) ≡ None → (ok ≡ true) × (rest ≡ None)
 not_unknown ok rest e = grind arith
 
 unused : {n : ℕ} → n ≡ 0 → In 0 0 n
-unused e = (omega arith, omega (arith, e))
+unused e = grind arith
 
 -- what the fields keep to where a form finds none of them wrong
 pub record Keeps (f : Form) (head : Head) (row : List ℕ) : Type 0 where
@@ -44,81 +40,36 @@ pub record Keeps (f : Form) (head : Head) (row : List ℕ) : Type 0 where
 
 module _ (head : Head) (row : List ℕ) where
   pub keeps : (f : Form) → fields_wrong f head row ≡ None → Keeps f head row
-  keeps f e =
-      record {
-        from = grind (arith, nat_tests);
-        to = grind (arith, nat_tests);
-        file = grind (arith, nat_tests);
-        gap = grind (arith, nat_tests);
-        number = (grind (arith, nat_tests), grind (arith, nat_tests));
-        version = (grind (arith, nat_tests), grind (arith, nat_tests));
-        term = (grind (arith, nat_tests), grind (arith, nat_tests));
-        used = grind (arith, nat_tests);
-      }
+  keeps f e = search (rules, nat_tests)
 
   none_wrong : (f : Form) → Keeps f head row → fields_wrong f head row ≡ None
-  none_wrong f k = grind (arith, nat_tests, k.from, k.to, k.file, k.gap, k.number.0, k.number.1, k.version.0, k.version.1, k.term.0, k.term.1, k.used)
+  none_wrong f k = search (rules, nat_tests)
 
-  uses_of : (kind : Kind) → Keeps (form kind) head row → row_fault (form kind) row ≡ None → Uses kind head.number head.version head.term row
-  uses_of Ask k e = (k.number, omega (arith, k.version.1), omega (arith, k.term.1), each_zero row k.used)
-  uses_of Grant k e = (k.number, k.version, k.term.1, nowhere unlawful_at (row_wrong row) e)
-  uses_of Recall k e = (omega (arith, k.number.1), k.version, omega (arith, k.term.1), each_zero row k.used)
-  uses_of Approve k e = (omega (arith, k.number.1), k.version, omega (arith, k.term.1), each_zero row k.used)
-  uses_of Write k e = (k.number, omega (arith, k.version.1), omega (arith, k.term.1), nowhere unlawful_at (row_wrong row) e)
-  uses_of Done k e = (k.number, omega (arith, k.version.1), omega (arith, k.term.1), each_zero row k.used)
+  keeps_fitting : (kind : Kind) → Fits kind head row → Keeps (form kind) head row
+  keeps_fitting kind fits = search (rules, zero_all, unused)
 
-  -- the bounds of a kind's form, and its row, where the frame uses its fields lawfully
-  abbrev Spans : Kind → Type 0
-  Spans kind =
-      In (form kind).numbers.low (form kind).numbers.high head.number
-      × In (form kind).versions.low (form kind).versions.high head.version
-      × In (form kind).terms.low (form kind).terms.high head.term
-      × (((form kind).has_row || list_all (λ b. eqb b 0) row) ≡ true)
-      × (row_fault (form kind) row ≡ None)
-
-  spans : (kind : Kind) → Uses kind head.number head.version head.term row → Spans kind
-  spans Ask u = (u.0, unused u.1, unused u.2, zero_all row u.3, refl)
-  spans Grant u = (u.0, u.1, (omega arith, u.2), refl, ap (fault_at unlawful_at) u.3)
-  spans Recall u = (unused u.0, u.1, unused u.2, zero_all row u.3, refl)
-  spans Approve u = (unused u.0, u.1, unused u.2, zero_all row u.3, refl)
-  spans Write u = (u.0, unused u.1, unused u.2, refl, ap (fault_at unlawful_at) u.3)
-  spans Done u = (u.0, unused u.1, unused u.2, zero_all row u.3, refl)
+  used_fitting : (kind : Kind) → Fits kind head row → row_fault (form kind) row ≡ None
+  used_fitting kind fits = search rules
 
   no_halves_fault : (kind : Kind) → Fits kind head row → halves_fault head row ≡ None
   no_halves_fault kind fits =
       let known = ap kind_marked fits.marked ∙ kind_found kind in
-      let s = spans kind fits.uses in
-      let wrong =
-      none_wrong (form kind) (record {
-        from = fits.from_fits;
-        to = fits.to_fits;
-        file = fits.file_fits;
-        gap = fits.gap_is;
-        number = s.0;
-        version = s.1;
-        term = s.2;
-        used = s.3;
-      }) in
-      ap (λ (o : Option Kind). marked_fault o head row) known ∙ (λ i. first_fault (s.4 i) (fault_at wrong_at (wrong i)))
+      let wrong = none_wrong (form kind) (keeps_fitting kind fits) in
+      let used = used_fitting kind fits in
+      grind arith
 
   fits_kind : (kind : Kind) → head.mark ≡ mark kind → halves_fault head row ≡ None → Fits kind head row
-  fits_kind kind marked e =
+  fits_kind kind marked none =
       let known = ap kind_marked marked ∙ kind_found kind in
-      let both = first_none (row_fault (form kind) row) (fault_at wrong_at (fields_wrong (form kind) head row)) (sym (ap (λ (o : Option Kind). marked_fault o head row) known) ∙ e) in
+      let whole : marked_fault (Some kind) head row ≡ None = cc in
+      let both = first_none (row_fault (form kind) row) (fault_at wrong_at (fields_wrong (form kind) head row)) whole in
+      let used = both.0 in
       let k = keeps (form kind) (nowhere wrong_at (fields_wrong (form kind) head row) both.1) in
-      record {
-        marked = marked;
-        from_fits = k.from;
-        to_fits = k.to;
-        file_fits = k.file;
-        gap_is = k.gap;
-        uses = uses_of kind k both.0;
-      }
+      search (rules, each_zero, nowhere)
 
   fits_some : (o : Option Kind) → kind_marked head.mark ≡ o → marked_fault o head row ≡ None → (kind : Kind) × Fits kind head row
   fits_some None is e = absurd (grind arith)
-  fits_some (Some kind) is e =
-      (kind, fits_kind kind (mark_found head.mark kind is) (ap (λ (o : Option Kind). marked_fault o head row) is ∙ e))
+  fits_some (Some kind) is e = (kind, fits_kind kind (mark_found head.mark kind is) (grind arith))
 
 module _ (bs : List ℕ) where
   halves_part : frame_fault bs ≡ None → (eqb (length bs) 32 ≡ true) × (halves_fault (head_in (take 16 bs)) (drop 16 bs) ≡ None)
@@ -137,8 +88,9 @@ module _ (bs : List ℕ) where
 
   pub no_fault : LawfulFrame bs → frame_fault bs ≡ None
   no_fault l =
-      ap (λ b. cond b (halves_fault (head_in (take 16 bs)) (drop 16 bs)) (Some unknown_frame)) (eq-eqb (length bs) 32 l.long)
-      ∙ no_halves_fault (head_in (take 16 bs)) (drop 16 bs) l.kind l.fits
+      let long = eq-eqb (length bs) 32 l.long in
+      let none = no_halves_fault (head_in (take 16 bs)) (drop 16 bs) l.kind l.fits in
+      cc
 
 -- reading a frame decides whether it is lawful
 pub decides : (bs : List ℕ) (r : Result Message Fault) → FrameRead bs r → Decides (is_ok r) (LawfulFrame bs)

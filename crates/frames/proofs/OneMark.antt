@@ -1,27 +1,16 @@
 -- A kind has one mark, and a mark one kind. Assumes nothing.
-use Rattle.std.proofs.Common.{◌≡◌, ℕ, Some, sym, refl, ◌∙◌, arith}
+use Rattle.std.proofs.Common.{◌≡◌, ℕ, Some, sym, ◌∙◌, arith}
 use Rattle.std.proofs.lemmas.Bool.Decides.{nat_tests}
 use Rattle.messages.specs.declared.kind.Kind.{Kind}
-use Rattle.messages.specs.declared.kind.Kind.TheVariants.{Ask, Grant, Recall, Approve, Write, Done}
 use Rattle.frames.specs.Accepts.{mark}
 use Rattle.messages.specs.Marks.{form, kind_marked}
 
 -- the table has each kind's mark
 pub mark_is : (kind : Kind) → (form kind).mark ≡ mark kind
-mark_is Ask = refl
-mark_is Grant = refl
-mark_is Recall = refl
-mark_is Approve = refl
-mark_is Write = refl
-mark_is Done = refl
+mark_is kind = grind arith
 
 pub kind_found : (kind : Kind) → kind_marked (mark kind) ≡ Some kind
-kind_found Ask = refl
-kind_found Grant = refl
-kind_found Recall = refl
-kind_found Approve = refl
-kind_found Write = refl
-kind_found Done = refl
+kind_found kind = grind arith
 
 pub mark_found : (n : ℕ) (kind : Kind) → kind_marked n ≡ Some kind → n ≡ mark kind
 mark_found n kind e = grind (arith, nat_tests)

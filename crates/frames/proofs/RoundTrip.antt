@@ -1,12 +1,10 @@
 -- What is framed reads back the same, and what is read was framed so. Assumes nothing.
-use Rattle.std.proofs.Common.{◌≡◌, ℕ, zero, suc, ◌+◌, ◌-◌, ◌*◌, ◌/◌, ◌%◌, ◌^◌, ◌<◌, ◌≤◌, List, [], ◌∷◌, ◌++◌, length, get_or, replicate, take, drop, IfOk, None, Ok, Err, Result, sym, refl, ap, ◌∙◌, subst, arith, lit<, length-drop, take-append-drop, length-take-le, get_or-drop, eq-eqb}
+use Rattle.std.proofs.Common.{rules, ◌≡◌, ℕ, zero, suc, ◌+◌, ◌-◌, ◌*◌, ◌/◌, ◌%◌, ◌^◌, ◌<◌, ◌≤◌, List, [], ◌∷◌, ◌++◌, length, get_or, replicate, take, drop, IfOk, None, Ok, Err, Result, sym, refl, ap, ◌∙◌, subst, arith, lit<, length-drop, take-append-drop, length-take-le, get_or-drop, eq-eqb}
 use Rattle.faults.specs.declared.fault.Fault.{Fault}
 use Rattle.rows.specs.declared.row.Row.{Row}
-use Rattle.rows.specs.declared.row.Row.TheVariants.{Empty, Pass, Tuning}
 use Rattle.rows.specs.Rows.{RowIs, row_wrong, two, four, written}
 use Rattle.rows.proofs.RoundTrip.{whole2, whole4, read_written, reads_one, pair, quad, same, made_back}
 use Rattle.messages.specs.declared.kind.Kind.{Kind}
-use Rattle.messages.specs.declared.kind.Kind.TheVariants.{Ask, Grant, Recall, Approve, Write, Done}
 use Rattle.messages.specs.declared.message.Message.{Message}
 use Rattle.frames.specs.declared.parts.Parts.{Parts}
 use Rattle.frames.specs.Accepts.{Zero, Uses, Fits}
@@ -23,27 +21,15 @@ use Rattle.std.proofs.lemmas.Grind.{same_number_lists}
 use Rattle.std.proofs.lemmas.List.{get_or-replicate}
 
 mark_whole : (kind : Kind) → (form kind).mark / 256 % 256 * 256 + (form kind).mark % 256 ≡ (form kind).mark
-mark_whole Ask = refl
-mark_whole Grant = refl
-mark_whole Recall = refl
-mark_whole Approve = refl
-mark_whole Write = refl
-mark_whole Done = refl
+mark_whole kind = grind arith
 
 row_long : (row : Row) → length (written row) ≡ 16
-row_long Empty = refl
-row_long (Pass p) = refl
-row_long (Tuning t) = refl
+row_long row = grind arith
 
 -- fields that are used lawfully have room in their bytes
 module _ (number version term : ℕ) (row : List ℕ) where
   room : (kind : Kind) → Uses kind number version term row → (number < 2 ^ 32) × (version < 2 ^ 32) × (term ≤ 65535)
-  room Ask u = (omega (arith, u.0.1), omega (arith, u.1), omega (arith, u.2))
-  room Grant u = (omega (arith, u.0.1), omega (arith, u.1.1), omega (arith, u.2))
-  room Recall u = (omega (arith, u.0), omega (arith, u.1.1), omega (arith, u.2))
-  room Approve u = (omega (arith, u.0), omega (arith, u.1.1), omega (arith, u.2))
-  room Write u = (omega (arith, u.0.1), omega (arith, u.1), omega (arith, u.2))
-  room Done u = (omega (arith, u.0.1), omega (arith, u.1), omega (arith, u.2))
+  room kind u = grind arith
 
 pub read_framed : (m : Message) → FrameRead (framed m) (Ok m)
 read_framed m =
@@ -55,60 +41,34 @@ read_framed m =
     let v = whole4 (says b).1 fit.1 in
     let t = whole2 (says b).2 fit.2 in
     let long : length (framed m) ≡ 32 = omega (arith, row_long (says b).3) in
+    let mark = mark_whole kind in
     let fits : Fits kind (head_in (take 16 (framed m))) (drop 16 (framed m)) =
     record {
-      marked = mark_whole kind ∙ mark_is kind;
+      marked = mark ∙ mark_is kind;
       from_fits = m.nodes.0;
       to_fits = m.nodes.1;
       file_fits = m.files;
       gap_is = refl;
       uses = rw (n, v, t) uses;
-    } in (
-      no_fault (framed m) (record { long = long; kind = kind; fits = fits }),
-      record {
-        mark_is = mark_whole kind;
-        from_is = refl;
-        to_is = refl;
-        file_is = refl;
-        number_is = sym n;
-        version_is = sym v;
-        term_is = sym t;
-        row_is = (read_written (says b).3).1;
-      },
-    )
+    } in
+    (no_fault (framed m) (record { long = long; kind = kind; fits = fits }), search (rules, mark, read_written (says b).3))
 
 -- bytes that hold two messages hold one
 holds_one : (bs : List ℕ) (m other : Message) → FrameIs bs (parts m) → FrameIs bs (parts other) → m ≡ other
 holds_one bs m other is also =
     let kind = same_mark (kind_of m.body) (kind_of other.body) (sym is.mark_is ∙ also.mark_is) in
-    let from = is.from_is ∙ sym also.from_is in
-    let to = is.to_is ∙ sym also.to_is in
-    let file = is.file_is ∙ sym also.file_is in
-    let number = is.number_is ∙ sym also.number_is in
-    let version = is.version_is ∙ sym also.version_is in
-    let term = is.term_is ∙ sym also.term_is in
     let row = reads_one (drop 16 bs) (says m.body).3 (says other.body).3 is.row_is also.row_is in
-    let all : parts m ≡ parts other = λ i. record {
-      kind = kind i;
-      from = from i;
-      to = to i;
-      file = file i;
-      number = number i;
-      version = version i;
-      term = term i;
-      row = row i;
-    } in
-    let body = sym (body_again m.from m.to m.file m.body) ∙ ap body_of all ∙ body_again other.from other.to other.file other.body in
-    same_message m other from to file body
+    let all : parts m ≡ parts other = cc in
+    let here = body_again m.from m.to m.file m.body in
+    let there = body_again other.from other.to other.file other.body in
+    same_message m other (cc) (cc) (cc) (sym here ∙ ap body_of all ∙ there)
 
 -- what reading a message's bytes answers is that message
 pub read_forth : (bs : List ℕ) (m : Message) (r : Result Message Fault) → framed m ≡ bs → FrameRead bs r → r ≡ Ok m
 read_forth bs m (Ok other) e (none, is) =
     ap Ok (holds_one bs other m is (subst (λ (xs : List ℕ). FrameIs xs (parts m)) e (read_framed m).1))
 read_forth bs m (Err fault) e wrong =
-    let none = (read_framed m).0 in
-    let z : ◌≡◌ {A = ℕ} 0 1 = cc in
-    absurd (omega arith)
+    let none = (read_framed m).0 in absurd (grind arith)
 
 module _ (row : List ℕ) (long : length row ≡ 16) (fit : (i : ℕ) → get_or row i 0 < 256) where
   lawful_back : (r : Row) → row_wrong row ≡ None → RowIs row r → written r ≡ row
@@ -118,12 +78,7 @@ module _ (row : List ℕ) (long : length row ≡ 16) (fit : (i : ℕ) → get_or
   zero_back r zeros is = ap written (empty_row row r zeros is) ∙ same_number_lists (replicate 16 0) row (sym long) (λ k h. get_or-replicate 16 k 0 0 h ∙ sym (zeros k))
 
   row_back : (number version term : ℕ) (r : Row) → RowIs row r → (kind : Kind) → Uses kind number version term row → written r ≡ row
-  row_back number version term r is Ask u = zero_back r u.3 is
-  row_back number version term r is Grant u = lawful_back r u.3 is
-  row_back number version term r is Recall u = zero_back r u.3 is
-  row_back number version term r is Approve u = zero_back r u.3 is
-  row_back number version term r is Write u = lawful_back r u.3 is
-  row_back number version term r is Done u = zero_back r u.3 is
+  row_back number version term r is kind u = search (rules, zero_back, lawful_back)
 
 abbrev head_of : Parts → List ℕ
 head_of p =
@@ -133,9 +88,6 @@ module _ (head : List ℕ) (long : length head ≡ 16) (fit : (i : ℕ) → get_
   head_back : (p : Parts) (row : List ℕ) → FrameHas (head_in head) row p → get_or head 5 0 ≡ 0 → head_of p ≡ head
   head_back p row is gap =
       let m = pair head long fit 0 (form p.kind).mark (sym is.mark_is) in
-      let from = is.from_is in
-      let to = is.to_is in
-      let file = is.file_is in
       let n = quad head long fit 6 p.number is.number_is in
       let v = quad head long fit 10 p.version is.version_is in
       let t = pair head long fit 14 p.term is.term_is in

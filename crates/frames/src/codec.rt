@@ -10,19 +10,6 @@ use faults::fault::Fault;
 use messages::body::Body;
 use messages::message::Message;
 
-// The bounds of the parts that were read are those of a message.
-fn read_message(bytes: &[u8]) -> Result<Message, Fault>
-    ensures { FrameRead bytes.now result }
-{
-    let parts = read_parts(bytes)?;
-    Ok(Message {
-        from: parts.from,
-        to: parts.to,
-        file: parts.file,
-        body: Body::from(parts),
-    })
-}
-
 // The message that a frame holds, or why it holds none.
 pub fn decode(bytes: &[u8]) -> Result<Message, Fault>
     ensures exact { FrameRead bytes.now result }
@@ -30,7 +17,14 @@ pub fn decode(bytes: &[u8]) -> Result<Message, Fault>
     ensures forth { (message : Message) → framed message ≡ bytes.now → result ≡ Ok message }
     ensures lawful { Decides (is_ok result) (LawfulFrame bytes.now) }
 {
-    read_message(bytes)
+    let parts = read_parts(bytes)?;
+    // The parts have been held to the bounds of a message.
+    Ok(Message {
+        from: parts.from,
+        to: parts.to,
+        file: parts.file,
+        body: Body::from(parts),
+    })
 }
 
 // The message's frame.

@@ -19,24 +19,8 @@ impl From<&[u8; 16]> for Head {
     ghost from_gives = { λ bytes head. head ≡ head_in bytes.now };
 
     fn from(bytes: &[u8; 16]) -> Head {
-        let [
-            m0,
-            m1,
-            from,
-            to,
-            file,
-            gap,
-            n0,
-            n1,
-            n2,
-            n3,
-            v0,
-            v1,
-            v2,
-            v3,
-            t0,
-            t1,
-        ] = *bytes;
+        let [m0, m1, from, to, file, gap, ..] = *bytes;
+        let [.., n0, n1, n2, n3, v0, v1, v2, v3, t0, t1] = *bytes;
         Head {
             mark: u16::from_be_bytes([m0, m1]),
             from,
