@@ -17,8 +17,8 @@ pub trait Program {
         ensures { IfOk result (answers bytes.now) };
 }
 
-// Reads all of the input, and prints the program's answer. No clause can tell which bytes reach the system: what the
-// programs write on their standard input stands beside them.
+// Reads all of the input, and prints the program's answer. No clause can tell which bytes reach the system; each program
+// has an input beside it, and what it prints on that.
 pub fn run<P: Program>(rt: &(impl Input + Print + AllocGlobal)) -> io::Result<()> {
     let mut bytes = Vec::new(rt.alloc());
     rt.reader().read_to_end(&mut bytes)?;

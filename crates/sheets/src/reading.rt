@@ -48,7 +48,7 @@ impl Rows {
 impl Reader for Rows {
     type Record = Finding;
 
-    const BYTES: usize = 16;
+    const BYTES: usize = ROW_BYTES;
 
     ghost BYTES = { 16 };
 
