@@ -1,6 +1,6 @@
 use faults::fault::Fault;
 use faults::refusal::Refusal;
-use laws::row_trips::{read_back, write_back};
+use laws::trips::{read_back, write_back};
 use rows::kind::RowKind;
 use rows::pass::PassRow;
 use rows::row::Row;
@@ -62,8 +62,8 @@ fn other_lengths_and_kinds_are_refused(rt: HostRuntime) {
     assert!(rt; Row::from_bytes(&[]) == Err(Fault::unlawful(0)));
     assert!(rt; PassRow::from_bytes(&TUNING) == Err(Fault::unlawful(0)));
     assert!(rt; TuningRow::from_bytes(&PASS) == Err(Fault::unlawful(0)));
-    assert_eq!(rt; PassRow::kind_number(), 1);
-    assert_eq!(rt; TuningRow::kind_number(), 2);
+    assert_eq!(rt; PassRow::KIND, 1);
+    assert_eq!(rt; TuningRow::KIND, 2);
 }
 
 #[test]

@@ -89,9 +89,6 @@ Halved bs =
     Finds (cond (length bs == 32) None (Some unknown_frame))
     (λ halves. (halves.0 ≡ head_in (take 16 bs)) × (halves.1.now ≡ drop 16 bs))
 
-abbrev pub Passed : ℕ → Bool → Result Unit Fault → Type 0
-Passed place ok = Finds (fault_at wrong_at (field place ok None)) (λ _. Unit {0})
-
 abbrev pub FieldsPass : Form → Head → List ℕ → Result Unit Fault → Type 0
 FieldsPass form head row = Finds (fault_at wrong_at (fields_wrong form head row)) (λ _. Unit {0})
 
