@@ -4,7 +4,7 @@ use faults::refusal::Refusal;
 use frames::codec::{decode, encode};
 use laws::accepts::accepts;
 use laws::equality::{same_body, same_message};
-use laws::frame_trips::{decode_back, encode_back};
+use laws::trips::{read_back, write_back};
 use messages::body::Body;
 use messages::kind::Kind;
 use messages::message::Message;
@@ -75,8 +75,8 @@ fn the_worked_frames_read_and_write(rt: HostRuntime) -> Result<(), Fail> {
         body: Body::Write { number: 1, row },
     };
     assert_eq!(rt; encode(write), WRITE);
-    assert!(rt; decode_back(write) == Ok(write));
-    assert!(rt; encode_back(&RECALL) == Ok(RECALL));
+    assert!(rt; read_back(write) == Ok(write));
+    assert!(rt; write_back::<32, Message>(&RECALL) == Ok(RECALL));
     assert!(rt; accepts(&GRANT));
     assert!(rt; same_message(write, write) && !same_message(write, ask));
     assert!(rt; same_body(grant.body, grant.body) && !same_body(grant.body, write.body));

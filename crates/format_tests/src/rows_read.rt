@@ -26,7 +26,7 @@ fn the_worked_rows_read_and_write(rt: HostRuntime) -> Result<(), Fail> {
     assert!(rt; Row::from_bytes(&TUNING) == Ok(Row::Tuning(tuning)));
     assert_eq!(rt; Row::Tuning(tuning).to_bytes(), TUNING);
     assert!(rt; read_back(Row::Empty) == Ok(Row::Empty));
-    assert!(rt; write_back(&TUNING) == Ok(TUNING));
+    assert!(rt; write_back::<16, Row>(&TUNING) == Ok(TUNING));
     Ok(())
 }
 

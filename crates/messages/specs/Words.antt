@@ -3,15 +3,18 @@ use Rattle.std.specs.Prelude.{ℕ, List, ◌++◌, codes, decimal}
 use Rattle.rows.specs.Words.{row_words}
 use Rattle.messages.specs.declared.body.Body.{Body}
 use Rattle.messages.specs.declared.body.Body.TheVariants.{Ask, Grant, Recall, Approve, Write, Done}
+use Rattle.messages.specs.declared.kind.Kind.{Kind}
+use Rattle.messages.specs.declared.kind.Kind.TheVariants as kind
 use Rattle.messages.specs.declared.message.Message.{Message}
+use Rattle.messages.specs.Kinds.{kind_of}
 
-abbrev pub kind_word : Body → List ℕ
-kind_word (Ask number) = codes "ask"
-kind_word (Grant number version term row) = codes "grant"
-kind_word (Recall version) = codes "recall"
-kind_word (Approve version) = codes "approve"
-kind_word (Write number row) = codes "write"
-kind_word (Done number) = codes "done"
+abbrev pub kind_word : Kind → List ℕ
+kind_word kind.Ask = codes "ask"
+kind_word kind.Grant = codes "grant"
+kind_word kind.Recall = codes "recall"
+kind_word kind.Approve = codes "approve"
+kind_word kind.Write = codes "write"
+kind_word kind.Done = codes "done"
 
 abbrev pub body_words : Body → List ℕ
 body_words (Ask number) = codes "number " ++ decimal number
@@ -26,7 +29,7 @@ body_words (Done number) = codes "number " ++ decimal number
 
 abbrev pub message_words : Message → List ℕ
 message_words m =
-    kind_word m.body ++
+    kind_word (kind_of m.body) ++
     (codes " from " ++ (decimal m.from ++
     (codes " to " ++ (decimal m.to ++
     (codes ", file " ++ (decimal m.file ++ (codes ", " ++ body_words m.body)))))))

@@ -1,23 +1,23 @@
 // A message in words: its kind, its way, its file and what it says.
-ghost use Rattle.std.specs.Prelude.{◌≡◌, Some};
+ghost use Rattle.std.specs.Prelude.{Some};
 ghost use Rattle.messages.specs.Words.{kind_word, body_words, message_words};
 
 use crate::body::Body;
+use crate::kind::Kind;
 use crate::message::Message;
 use std::fmt;
 
-impl Body {
-    // The word for a message of this kind.
-    fn kind_word(self) -> &'static str
-        ensures { result.now ≡ kind_word self }
-    {
-        match self {
-            Body::Ask { .. } => "ask",
-            Body::Grant { .. } => "grant",
-            Body::Recall { .. } => "recall",
-            Body::Approve { .. } => "approve",
-            Body::Write { .. } => "write",
-            Body::Done { .. } => "done",
+impl fmt::Display for Kind {
+    ghost output = { λ kind. Some (kind_word kind) };
+
+    fn fmt<W: fmt::Write>(&self, f: &mut fmt::Formatter<W>) -> fmt::Result {
+        match *self {
+            Kind::Ask => write!(f, "ask"),
+            Kind::Grant => write!(f, "grant"),
+            Kind::Recall => write!(f, "recall"),
+            Kind::Approve => write!(f, "approve"),
+            Kind::Write => write!(f, "write"),
+            Kind::Done => write!(f, "done"),
         }
     }
 }
@@ -50,7 +50,7 @@ impl fmt::Display for Message {
     ghost output = { λ message. Some (message_words message) };
 
     fn fmt<W: fmt::Write>(&self, f: &mut fmt::Formatter<W>) -> fmt::Result {
-        let kind = self.body.kind_word();
+        let kind = self.kind();
         let from = self.from;
         let to = self.to;
         let file = self.file;
