@@ -1,6 +1,7 @@
-ghost use Rattle.std.specs.Prelude.{◌≡◌, Some, None, MatchResult};
+ghost use Rattle.std.specs.Prelude.{◌≡◌, ◌==◌, Some, None, MatchResult};
+ghost use Rattle.std.specs.List.{find};
 ghost use Rattle.faults.specs.Refusals.{unknown_frame};
-ghost use Rattle.messages.specs.Marks.{form, kind_marked};
+ghost use Rattle.messages.specs.Marks.{form, forms, kind_marked};
 
 use crate::kind::Kind;
 use crate::limits::{LATER_VERSIONS, NUMBERS, Span, TERMS, UNUSED, VERSIONS};
@@ -78,6 +79,12 @@ impl Kind {
     }
 }
 
+fn form_marked(mark: u16) -> Option<Form>
+    ensures { result ≡ find (λ f. f.mark == mark) forms }
+{
+    FORMS.iter().copied().find(|form| form.mark == mark)
+}
+
 // The kind with a mark.
 impl TryFrom<u16> for Kind {
     type Error = Fault;
@@ -87,10 +94,7 @@ impl TryFrom<u16> for Kind {
         (λ fault. (kind_marked mark ≡ None) × (fault ≡ unknown_frame)) };
 
     fn try_from(mark: u16) -> Result<Kind, Fault> {
-        let form = FORMS
-            .iter()
-            .find(|form| form.mark == mark)
-            .ok_or(Fault::unknown_frame())?;
+        let form = form_marked(mark).ok_or(Fault::unknown_frame())?;
         Ok(form.kind)
     }
 }

@@ -3,7 +3,7 @@ use Rattle.std.specs.Iterator.Adapters.{enumerate_source, enumerate_count}
 use Rattle.std.specs.Slice.Iter.{chunks_exact_rest, chunks_exact_size}
 use Rattle.lists.specs.Lists.{record_count, LinesAre}
 use Rattle.lists.proofs.Chunks.{After}
-use Rattle.lists.proofs.listing.Listing.read.Given as goal
+use Rattle.lists.proofs.reading.lines_of.Given as goal
 
 abbrev pub invariant-loop-index : goal.invariant-loop-index
 invariant-loop-index g l =

@@ -1,7 +1,7 @@
 use Rattle.std.proofs.Common.{rules, ◌∙◌, arith}
 use Rattle.lists.proofs.Chunks.{front_is_next, after_more, all_cut}
 use Rattle.lists.proofs.Lines.{lines_more}
-use Rattle.lists.proofs.listing.Listing.read.Goals as goal
+use Rattle.lists.proofs.reading.lines_of.Goals as goal
 
 pub loop-index-preserved : goal.loop-index-preserved
 loop-index-preserved g c =
@@ -21,4 +21,4 @@ pub returns : goal.returns
 returns g c =
     let so_far = c.loop-index.invariant in
     let all = all_cut _ _ _ _ so_far.cut (omega (arith, c.in-None.ensures.steps, so_far.size_is)) in
-    record { lines_are = rw all so_far.lines_are; faults_are = search rules; left_over_is = search rules }
+    rw all so_far.lines_are
