@@ -15,7 +15,7 @@ pub struct Listing<R: Reader> {
 // The lines, and the counts that close them.
 impl<R: Reader> fmt::Display for Listing<R> {
     fn fmt<W: fmt::Write>(&self, f: &mut fmt::Formatter<W>) -> fmt::Result {
-        for line in self.lines.iter() {
+        for line in &self.lines {
             writeln!(f, "{line}")?;
         }
         let list = R::list_noun();
