@@ -73,6 +73,7 @@ impl<C: Channel> Channel for RepeatFilter<C> {
 
     fn take(&mut self) -> Option<Message> {
         let message = self.below.take()?;
+        // The layer's own answer, so no `?` passes it on.
         if self.gave(message) {
             return None;
         }

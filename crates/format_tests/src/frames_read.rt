@@ -51,7 +51,7 @@ fn the_worked_frames_read_and_write(rt: HostRuntime) -> Result<(), Fail> {
         body: Body::Ask { number: 1 },
     };
     assert_eq!(rt; encode(ask), ASK);
-    assert!(rt; decode(&ASK) == Ok(ask));
+    assert_eq!(rt; decode(&ASK), Ok(ask));
     let grant = Message {
         from: 0,
         to: 1,
@@ -64,9 +64,7 @@ fn the_worked_frames_read_and_write(rt: HostRuntime) -> Result<(), Fail> {
         },
     };
     assert_eq!(rt; encode(grant), GRANT);
-    let Ok(pass) = PassRow::new(7, 3, 36_000, 600) else {
-        return Err(Fail::new("a lawful pass row"));
-    };
+    let pass = PassRow::new(7, 3, 36_000, 600)?;
     let row = Row::Pass(pass);
     let write = Message {
         from: 2,
@@ -75,8 +73,8 @@ fn the_worked_frames_read_and_write(rt: HostRuntime) -> Result<(), Fail> {
         body: Body::Write { number: 1, row },
     };
     assert_eq!(rt; encode(write), WRITE);
-    assert!(rt; read_back(write) == Ok(write));
-    assert!(rt; write_back::<32, Message>(&RECALL) == Ok(RECALL));
+    assert_eq!(rt; read_back(write), Ok(write));
+    assert_eq!(rt; write_back::<32, Message>(&RECALL), Ok(RECALL));
     assert!(rt; accepts(&GRANT));
     assert!(rt; same_message(write, write) && !same_message(write, ask));
     assert!(rt; same_body(grant.body, grant.body) && !same_body(grant.body, write.body));
@@ -87,36 +85,36 @@ fn the_worked_frames_read_and_write(rt: HostRuntime) -> Result<(), Fail> {
 fn a_kind_is_told_by_its_number_and_its_mark(rt: HostRuntime) {
     assert_eq!(rt; u8::from(Kind::Ask), 1);
     assert_eq!(rt; u8::from(Kind::Done), 6);
-    assert!(rt; Kind::try_from(0x4752) == Ok(Kind::Grant));
-    assert!(rt; Kind::try_from(0x4753) == Err(Fault::unknown_frame()));
+    assert_eq!(rt; Kind::try_from(0x4752), Ok(Kind::Grant));
+    assert_eq!(rt; Kind::try_from(0x4753), Err(Fault::unknown_frame()));
 }
 
 #[test]
 fn a_length_or_mark_is_judged_first(rt: HostRuntime) {
-    assert!(rt; decode(&ASK[0..31]) == refused(Refusal::UnknownFrame, 0));
-    assert!(rt; decode(&[0; 33]) == refused(Refusal::UnknownFrame, 0));
-    assert!(rt; damaged(WRITE, 1, 0x53) == refused(Refusal::UnknownFrame, 0));
+    assert_eq!(rt; decode(&ASK[0..31]), refused(Refusal::UnknownFrame, 0));
+    assert_eq!(rt; decode(&[0; 33]), refused(Refusal::UnknownFrame, 0));
+    assert_eq!(rt; damaged(WRITE, 1, 0x53), refused(Refusal::UnknownFrame, 0));
 }
 
 #[test]
 fn a_used_row_is_judged_before_the_fields(rt: HostRuntime) {
     let mut frame = WRITE;
     frame[2] = 16;
-    assert!(rt; decode(&frame) == refused(Refusal::FrameField, 2));
+    assert_eq!(rt; decode(&frame), refused(Refusal::FrameField, 2));
     frame[19] = 9;
-    assert!(rt; decode(&frame) == refused(Refusal::UnlawfulRow, 3));
+    assert_eq!(rt; decode(&frame), refused(Refusal::UnlawfulRow, 3));
 }
 
 #[test]
 fn the_first_wrong_field_is_told(rt: HostRuntime) {
-    assert!(rt; damaged(ASK, 3, 16) == refused(Refusal::FrameField, 3));
-    assert!(rt; damaged(ASK, 4, 32) == refused(Refusal::FrameField, 4));
-    assert!(rt; damaged(ASK, 5, 1) == refused(Refusal::FrameField, 5));
-    assert!(rt; damaged(ASK, 9, 0) == refused(Refusal::FrameField, 6));
-    assert!(rt; damaged(ASK, 13, 1) == refused(Refusal::FrameField, 10));
-    assert!(rt; damaged(RECALL, 13, 1) == refused(Refusal::FrameField, 10));
-    assert!(rt; damaged(GRANT, 14, 0xff) == refused(Refusal::FrameField, 14));
-    assert!(rt; damaged(RECALL, 31, 1) == refused(Refusal::FrameField, 16));
+    assert_eq!(rt; damaged(ASK, 3, 16), refused(Refusal::FrameField, 3));
+    assert_eq!(rt; damaged(ASK, 4, 32), refused(Refusal::FrameField, 4));
+    assert_eq!(rt; damaged(ASK, 5, 1), refused(Refusal::FrameField, 5));
+    assert_eq!(rt; damaged(ASK, 9, 0), refused(Refusal::FrameField, 6));
+    assert_eq!(rt; damaged(ASK, 13, 1), refused(Refusal::FrameField, 10));
+    assert_eq!(rt; damaged(RECALL, 13, 1), refused(Refusal::FrameField, 10));
+    assert_eq!(rt; damaged(GRANT, 14, 0xff), refused(Refusal::FrameField, 14));
+    assert_eq!(rt; damaged(RECALL, 31, 1), refused(Refusal::FrameField, 16));
 }
 
 #[test]

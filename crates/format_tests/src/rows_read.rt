@@ -15,53 +15,55 @@ const TUNING: [u8; 16] = *b"\x02\x00\x07\x1a\x0c\x17\x40\xff\xff\xda\xe4\x00\x00
 
 #[test]
 fn the_worked_rows_read_and_write(rt: HostRuntime) -> Result<(), Fail> {
-    let Ok(pass) = PassRow::new(7, 3, 36_000, 600) else {
-        return Err(Fail::new("a lawful pass row"));
-    };
-    let Ok(tuning) = TuningRow::new(7, 437_000_000, -9_500) else {
-        return Err(Fail::new("a lawful tuning row"));
-    };
-    assert!(rt; Row::from_bytes(&PASS) == Ok(Row::Pass(pass)));
+    let pass = PassRow::new(7, 3, 36_000, 600)?;
+    let tuning = TuningRow::new(7, 437_000_000, -9_500)?;
+    assert_eq!(rt; Row::from_bytes(&PASS), Ok(Row::Pass(pass)));
     assert_eq!(rt; Row::Pass(pass).to_bytes(), PASS);
-    assert!(rt; Row::from_bytes(&TUNING) == Ok(Row::Tuning(tuning)));
+    assert_eq!(rt; Row::from_bytes(&TUNING), Ok(Row::Tuning(tuning)));
     assert_eq!(rt; Row::Tuning(tuning).to_bytes(), TUNING);
-    assert!(rt; read_back(Row::Empty) == Ok(Row::Empty));
-    assert!(rt; write_back::<16, Row>(&TUNING) == Ok(TUNING));
+    assert_eq!(rt; read_back(Row::Empty), Ok(Row::Empty));
+    assert_eq!(rt; write_back::<16, Row>(&TUNING), Ok(TUNING));
     Ok(())
 }
 
 #[test]
 fn a_limit_is_the_last_that_is_lawful(rt: HostRuntime) {
     assert!(rt; PassRow::new(1, 8, 604_799, 3_600).is_ok());
-    assert!(rt; PassRow::new(0, 9, 604_800, 0) == Err(Fault::unlawful(1)));
-    assert!(rt; PassRow::new(1, 9, 604_800, 0) == Err(Fault::unlawful(3)));
-    assert!(rt; PassRow::new(1, 8, 604_800, 0) == Err(Fault::unlawful(4)));
-    assert!(rt; PassRow::new(1, 8, 604_799, 0) == Err(Fault::unlawful(8)));
+    assert_eq!(rt; PassRow::new(0, 9, 604_800, 0), Err(Fault::unlawful(1)));
+    assert_eq!(rt; PassRow::new(1, 9, 604_800, 0), Err(Fault::unlawful(3)));
+    assert_eq!(rt; PassRow::new(1, 8, 604_800, 0), Err(Fault::unlawful(4)));
+    assert_eq!(rt; PassRow::new(1, 8, 604_799, 0), Err(Fault::unlawful(8)));
     assert!(rt; TuningRow::new(65_535, 100_000_000, -200_000).is_ok());
-    assert!(rt; TuningRow::new(1, 99_999_999, -200_001) == Err(Fault::unlawful(3)));
-    assert!(rt; TuningRow::new(1, 3_000_000_000, -200_001) == Err(Fault::unlawful(7)));
+    assert_eq!(rt;
+        TuningRow::new(1, 99_999_999, -200_001),
+        Err(Fault::unlawful(3))
+    );
+    assert_eq!(rt;
+        TuningRow::new(1, 3_000_000_000, -200_001),
+        Err(Fault::unlawful(7))
+    );
 }
 
 #[test]
 fn the_first_wrong_byte_is_told(rt: HostRuntime) {
     let mut bytes = PASS;
     bytes[15] = 1;
-    assert!(rt; Row::from_bytes(&bytes) == Err(Fault::unlawful(15)));
+    assert_eq!(rt; Row::from_bytes(&bytes), Err(Fault::unlawful(15)));
     bytes[10] = 1;
-    assert!(rt; Row::from_bytes(&bytes) == Err(Fault::unlawful(10)));
+    assert_eq!(rt; Row::from_bytes(&bytes), Err(Fault::unlawful(10)));
     bytes[0] = 3;
-    assert!(rt; Row::from_bytes(&bytes) == Err(Fault::unlawful(0)));
+    assert_eq!(rt; Row::from_bytes(&bytes), Err(Fault::unlawful(0)));
     bytes[0] = 0;
-    assert!(rt; Row::from_bytes(&bytes) == Err(Fault::unlawful(2)));
+    assert_eq!(rt; Row::from_bytes(&bytes), Err(Fault::unlawful(2)));
 }
 
 #[test]
 fn other_lengths_and_kinds_are_refused(rt: HostRuntime) {
-    assert!(rt; Row::from_bytes(&PASS[0..15]) == Err(Fault::unlawful(15)));
-    assert!(rt; Row::from_bytes(&[0; 17]) == Err(Fault::unlawful(16)));
-    assert!(rt; Row::from_bytes(&[]) == Err(Fault::unlawful(0)));
-    assert!(rt; PassRow::from_bytes(&TUNING) == Err(Fault::unlawful(0)));
-    assert!(rt; TuningRow::from_bytes(&PASS) == Err(Fault::unlawful(0)));
+    assert_eq!(rt; Row::from_bytes(&PASS[0..15]), Err(Fault::unlawful(15)));
+    assert_eq!(rt; Row::from_bytes(&[0; 17]), Err(Fault::unlawful(16)));
+    assert_eq!(rt; Row::from_bytes(&[]), Err(Fault::unlawful(0)));
+    assert_eq!(rt; PassRow::from_bytes(&TUNING), Err(Fault::unlawful(0)));
+    assert_eq!(rt; TuningRow::from_bytes(&PASS), Err(Fault::unlawful(0)));
     assert_eq!(rt; PassRow::KIND, 1);
     assert_eq!(rt; TuningRow::KIND, 2);
 }

@@ -17,6 +17,7 @@ pub(crate) fn zero_from(bytes: &[u8; 16], from: usize) -> Result<(), Fault>
     ensures { Answers (first_nonzero from (drop from bytes.now)) (λ _. ⊤) result }
 {
     let (_, rest) = bytes.split_at(from);
+    // What is found is the fault, so `ok_or` and `?` would turn it around.
     match first_nonzero(rest) {
         None => Ok(()),
         Some(place) => Err(Fault::unlawful(from + place)),
