@@ -3,7 +3,8 @@ ghost use Rattle.std.specs.Prelude.{◌≡◌, ◌+◌, ◌≤◌, MatchBool, na
 use crate::clock::{FIRST_TICK, LAST_TICK};
 use crate::drift::DriftBound;
 
-// What all banks keep: the true time, and how far their clocks may be from it.
+// What all banks keep: the true time, and how far their clocks may be from it. A bank hands its calls on to it in a line
+// each, since the trait asks each bank for all of its members.
 #[derive(Clone, Copy, PartialEq, Eq)]
 pub(crate) struct Course {
     pub(crate) time: u32,

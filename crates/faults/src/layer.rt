@@ -15,6 +15,7 @@ impl From<Layer> for u8 {
     ghost from_gives = { λ layer number. number ≡ layer_number layer };
 
     fn from(layer: Layer) -> u8 {
+        // the number that stands at the case; nothing but `as` tells it
         layer as u8
     }
 }

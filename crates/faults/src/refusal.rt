@@ -49,6 +49,7 @@ impl From<Refusal> for u8 {
     ghost from_gives = { λ refusal number. number ≡ number_of refusal };
 
     fn from(refusal: Refusal) -> u8 {
+        // the number that stands at the case; nothing but `as` tells it
         refusal as u8
     }
 }

@@ -10,7 +10,8 @@ use faults::fault::Fault;
 use messages::body::Body;
 use messages::message::Message;
 
-// The message that a frame holds, or why it holds none.
+// The message that a frame holds, or why it holds none. This and `encode` are functions and no conversions: their
+// clauses have a name each, and a call says which format it reads or writes.
 pub fn decode(bytes: &[u8]) -> Result<Message, Fault>
     ensures exact { FrameRead bytes.now result }
     ensures back { IfOk result (λ message. framed message ≡ bytes.now) }

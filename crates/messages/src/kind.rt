@@ -20,12 +20,13 @@ impl From<Kind> for u8 {
     ghost from_gives = { λ kind number. number ≡ number_of_kind kind };
 
     fn from(kind: Kind) -> u8 {
+        // the number that stands at the case; nothing but `as` tells it
         kind as u8
     }
 }
 
 impl Message {
-    // The message's kind.
+    // The message's kind: a part of it, and no conversion.
     pub fn kind(self) -> Kind
         ensures { result ≡ kind_of self.body }
     {

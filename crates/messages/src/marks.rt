@@ -71,7 +71,7 @@ pub const FORMS: [Form; 6] = [
 ];
 
 impl Kind {
-    // How the kind's frames look.
+    // How the kind's frames look. The kind's number finds the place in the table.
     pub fn form(self) -> Form
         ensures { result ≡ form self }
     {

@@ -25,8 +25,8 @@ fn by_kind(bytes: &[u8; 16]) -> Result<Row, Fault>
             zero_from(bytes, 1)?;
             Ok(Row::Empty)
         }
-        PassRow::KIND => PassRow::from_bytes(bytes).map(Row::Pass),
-        TuningRow::KIND => TuningRow::from_bytes(bytes).map(Row::Tuning),
+        PassRow::KIND => Ok(Row::Pass(PassRow::from_bytes(bytes)?)),
+        TuningRow::KIND => Ok(Row::Tuning(TuningRow::from_bytes(bytes)?)),
         _ => Err(Fault::unlawful(0)),
     }
 }

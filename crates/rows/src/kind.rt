@@ -13,6 +13,7 @@ pub trait RowKind: Sized {
     ghost reads: { List ℕ → Result Self Fault → Type 0 };
 
     // The row of this kind that the bytes hold, or the first field that is wrong; the kind is the first field.
+    // Named as `from_bytes` of `Row` is.
     fn from_bytes(bytes: &[u8; 16]) -> Result<Self, Fault>
         ensures { reads bytes.now result };
 }

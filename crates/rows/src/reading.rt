@@ -6,6 +6,7 @@ use crate::pass::PassRow;
 use crate::tuning::TuningRow;
 use faults::fault::Fault;
 
+// The two kinds share what tests a field and what follows the fields; the fields are their own.
 impl RowKind for PassRow {
     const KIND: u8 = 1;
 

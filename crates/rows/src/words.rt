@@ -1,4 +1,4 @@
-// Rows in words, as the programs print them.
+// Rows in words, as the programs print them. The texts of the two kinds have nothing in common but their shape.
 ghost use Rattle.std.specs.Prelude.{Some};
 ghost use Rattle.rows.specs.Words.{pass_words, tuning_words, row_words};
 

@@ -8,7 +8,7 @@ use lists::reader::Reader;
 use rows::row::{ROW_BYTES, Row};
 use std::alloc::{AllocError, Global};
 
-// one place for each number that a satellite can have
+// One place for each number that a satellite can have: a place is read by its index, where a map would search.
 const SATELLITES: usize = 65_536;
 
 // How the rows of a sheet are read: a pass row together with the first tuning row of its satellite.

@@ -2,7 +2,7 @@ ghost use Rattle.std.specs.Prelude.{◌≡◌, ℕ, ◌≤◌, Bool, true, false
 
 use crate::longest::LongestTerm;
 
-// Which term a granter gives.
+// Which term a granter gives. Two policies may differ in one member; the trait asks each for all of them.
 pub trait TermPolicy: Sized {
     // the longest term that it ever answers
     ghost longest: { Self → ℕ };

@@ -36,7 +36,8 @@ impl TermPolicy for Sharing {
     }
 
     fn term(&mut self, _file: usize, others: usize) -> u16 {
-        // The largest usize has no number after it; it leaves 0 to each, and so would one more.
+        // The largest usize has no number after it; it leaves 0 to each, and so would one more. The quotient fits, and
+        // `try_from` would make a failure that can't be.
         (usize::from(self.longest.ticks) / others.saturating_add(1)) as u16
     }
 }
