@@ -28,10 +28,10 @@ kept false xs m all = all
 pub frames_stored : (xs ys : List (List ℕ)) (m : Message) → ys ≡ stored xs (framed m) → all_frames xs ≡ true → all_frames ys ≡ true
 frames_stored xs ys m is all = ap all_frames is ∙ kept (nat_lt (length xs) 64) xs m all
 
-first_true : (a b : Bool) → (a && (b && true)) ≡ true → (a ≡ true) × (b ≡ true)
-first_true true true e = (refl, refl)
-first_true true false e = grind (arith, nat_tests)
-first_true false b e = grind (arith, nat_tests)
+both_are_true : (a b : Bool) → (a && (b && true)) ≡ true → (a ≡ true) × (b ≡ true)
+both_are_true true true e = (refl, refl)
+both_are_true true false e = grind (arith, nat_tests)
+both_are_true false b e = grind (arith, nat_tests)
 
 no_fault : (o : Option Fault) → is_none o ≡ true → o ≡ None
 no_fault None e = refl
@@ -40,7 +40,7 @@ no_fault (Some fault) e = grind (arith, nat_tests)
 -- of frames the newest is one, and so are those that are left
 pub newest_frame : (xs ys : List (List ℕ)) (bs : List ℕ) → NewestTaken xs (Some bs) ys → all_frames xs ≡ true → (all_frames ys ≡ true) × (frame_fault bs ≡ None)
 newest_frame xs ys bs taken all =
-    let parts = first_true (all_frames ys) (is_frame bs) (sym (frames_push ys bs) ∙ sym (ap all_frames taken) ∙ all) in
+    let parts = both_are_true (all_frames ys) (is_frame bs) (sym (frames_push ys bs) ∙ sym (ap all_frames taken) ∙ all) in
     (parts.0, no_fault (frame_fault bs) parts.1)
 
 pub frames_left : (xs ys : List (List ℕ)) (o : Option (List ℕ)) → NewestTaken xs o ys → all_frames xs ≡ true → all_frames ys ≡ true

@@ -56,6 +56,7 @@ impl<C: Channel> Channel for Echo<C> {
     }
 
     fn take(&mut self) -> Option<Message> {
+        // No `or_else`: the check didn't follow a closure that changes `self`.
         match self.held.take() {
             Some(message) => Some(message),
             None => {

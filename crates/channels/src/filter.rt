@@ -18,7 +18,7 @@ const REMEMBERED: usize = 4;
 #[derive(Drop)]
 pub struct RepeatFilter<C> {
     below: C,
-    // the last that it gave, the newest last
+    // The last that it gave, the newest last. No `Store`: that loses what comes when it is full, and this what came first.
     given: VecDeque<Message>,
     ghost room: { 4 ≤ deque_capacity given },
     ghost few: { deque_len given ≤ 4 },

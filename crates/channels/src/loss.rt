@@ -1,5 +1,5 @@
 ghost use Rattle.std.specs.Prelude.{◌≡◌, ◌+◌, ◌≤◌, nat_eq, MatchBool};
-ghost use Rattle.std.proofs.Common.{subst, inl, rules, arith};
+ghost use Rattle.std.proofs.Common.{subst, inl, rules};
 ghost use Rattle.channels.specs.Held.{by_test};
 
 use crate::channel::Channel;

@@ -4,6 +4,7 @@ ghost use Rattle.channels.specs.Places.{stored, first, rest};
 ghost use Rattle.channels.specs.Held.{none_held, held_or_sent, first_held, rest_held};
 
 use crate::channel::Channel;
+pub use crate::store::PLACES;
 use crate::store::Store;
 use messages::message::Message;
 use std::alloc::{AllocError, Global};

@@ -6,7 +6,8 @@ use std::alloc::{AllocError, Global};
 use std::collections::VecDeque;
 use std::marker::Model;
 
-const PLACES: usize = 64;
+// How many messages a queue or a pool holds.
+pub const PLACES: usize = 64;
 
 // A store of 64 places, all reserved when it is made; what comes to a full one is lost.
 #[derive(Drop)]

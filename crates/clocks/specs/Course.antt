@@ -1,4 +1,4 @@
--- How a course begins, and how time passes on it.
+-- How a course begins, and how time passes on it. Assumes nothing.
 use Rattle.std.specs.Prelude.{◌≡◌, ℕ, ◌+◌}
 use Rattle.clocks.specs.declared.course.Course.{Course}
 

@@ -5,7 +5,7 @@ use crate::drift::DriftBound;
 
 // What all banks keep: the true time, and how far their clocks may be from it. A bank hands its calls on to it in a line
 // each, since the trait asks each bank for all of its members.
-#[derive(Clone, Copy, PartialEq, Eq)]
+#[derive(Clone, Copy)]
 pub(crate) struct Course {
     pub(crate) time: u32,
     pub(crate) drift: DriftBound,

@@ -7,7 +7,7 @@ use crate::course::Course;
 use crate::drift::DriftBound;
 
 // Clocks that all read the true time, whatever the bound allows.
-#[derive(Clone, Copy, PartialEq, Eq)]
+#[derive(Clone, Copy)]
 pub struct Exact {
     course: Course,
 }

@@ -7,7 +7,7 @@ use crate::course::Course;
 use crate::drift::DriftBound;
 
 // Clocks at the edges of their bound: the whole bank reads ahead by it, then behind by it, by turns.
-#[derive(Clone, Copy, PartialEq, Eq)]
+#[derive(Clone, Copy)]
 pub struct Swinging {
     course: Course,
     ahead: bool,

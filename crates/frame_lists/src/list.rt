@@ -27,6 +27,8 @@ impl Reader for Frames {
 
     ghost list_noun = { codes "list" };
 
+    ghost some_bytes = { Prim.search rules };
+
     fn read(&self, bytes: &[u8]) -> Result<Message, Fault> {
         decode(bytes)
     }
@@ -38,8 +40,6 @@ impl Reader for Frames {
     fn list_noun() -> &'static str {
         "list"
     }
-
-    ghost some_bytes = { Prim.search rules };
 }
 
 // Reads a list of frames: any bytes, of any number.

@@ -13,7 +13,8 @@ fn is_zero(row: &[u8; 16]) -> bool
     row.iter().all(|&byte| byte == 0)
 }
 
-// The fields in the order of their bytes, each told by its first in the frame. A row that the form uses has been judged by the row reader.
+// The fields in the order of their bytes, each told by its first in the frame. A row that the form uses has been judged
+// by the row reader.
 pub(crate) fn check_fields(form: Form, head: Head, row: &[u8; 16]) -> Result<(), Fault>
     ensures { FieldsPass form head row.now result }
 {

@@ -6,7 +6,8 @@ use messages::kind::Kind;
 use messages::message::Message;
 use rows::row::Row;
 
-// A message laid out flat: a field that its kind doesn't use is 0, and a row empty.
+// A message laid out flat: a field that its kind doesn't use is 0, and a row empty. Unlike a head it has a kind, where a
+// head's mark may be none's, and no gap.
 #[derive(Clone, Copy)]
 pub(crate) struct Parts {
     pub(crate) kind: Kind,

@@ -5,7 +5,8 @@ use std::fmt::Display;
 use std::io;
 use std::io::{BufWriter, Read, Write};
 
-// A program that prints its answer to the bytes of its input.
+// A program that prints its answer to the bytes of its input. A trait, and no closure that `run` would take: `run` would
+// have to require that it may be called.
 pub trait Program {
     type Answer: Display + Drop;
 

@@ -26,7 +26,7 @@ pub trait Reader {
     fn read(&self, bytes: &[u8]) -> Result<Self::Record, Fault>
         ensures { reads self.now bytes.now result };
 
-    // What one record is called.
+    // What one record is called. A function, since no clause can compare a constant text with its ghost member.
     fn noun() -> &'static str
         ensures { result.now ≡ noun };
 

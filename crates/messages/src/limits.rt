@@ -72,7 +72,7 @@ impl Body {
 }
 
 impl Message {
-    // The message with these fields, if all are within their bounds.
+    // The message with these fields, if all are within their bounds. The value needs the test, so `then_some` can't make it.
     pub fn new(from: u8, to: u8, file: u8, body: Body) -> Option<Message>
         ensures { MessageMade from to file body result }
     {

@@ -28,7 +28,7 @@ impl fmt::Display for Body {
 
     fn fmt<W: fmt::Write>(&self, f: &mut fmt::Formatter<W>) -> fmt::Result {
         match *self {
-            Body::Ask { number } => write!(f, "number {number}"),
+            Body::Ask { number } | Body::Done { number } => write!(f, "number {number}"),
             Body::Grant {
                 number,
                 version,
@@ -38,10 +38,10 @@ impl fmt::Display for Body {
                 f,
                 "number {number}, version {version}, term {term}, row: {row}"
             ),
-            Body::Recall { version } => write!(f, "version {version}"),
-            Body::Approve { version } => write!(f, "version {version}"),
+            Body::Recall { version } | Body::Approve { version } => {
+                write!(f, "version {version}")
+            }
             Body::Write { number, row } => write!(f, "number {number}, row: {row}"),
-            Body::Done { number } => write!(f, "number {number}"),
         }
     }
 }

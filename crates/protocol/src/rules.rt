@@ -1,5 +1,7 @@
 // The rules on which the safety of a lease turns: with them every live copy agrees with the primary, and without any of them some run
 // breaks agreement.
+//
+// A function without code carries a theorem to its number: a wrong number is refused where it is made.
 ghost use Rattle.std.specs.Prelude.{◌≡◌, ℕ, ◌+◌, ◌*◌, true, cond, List, [], ◌∷◌, length};
 ghost use Rattle.protocol.specs.Rules.{open_ask, own_number, no_write_waits, next_version, quiet_mark, children_done, entries_done};
 ghost use Rattle.protocol.specs.Rules.{sound, narrow_margin, overwritten_entry, without};

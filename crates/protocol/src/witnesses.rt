@@ -1,4 +1,6 @@
 // That the promises are not empty: runs in which something happens.
+//
+// A function without code carries a theorem to its number: a wrong number is refused where it is made.
 ghost use Rattle.std.specs.Prelude.{◌≡◌, ℕ, List, [], ◌∷◌};
 ghost use Rattle.protocol.specs.Rules.{sound};
 ghost use Rattle.protocol.specs.Witnesses.{Alive, Served};

@@ -1,4 +1,4 @@
-ghost use Rattle.std.specs.Prelude.{◌≡◌, ℕ, ◌<◌, IfOk, None, codes, vec_len, slice_index_or};
+ghost use Rattle.std.specs.Prelude.{◌≡◌, IfOk, codes, vec_len};
 ghost use Rattle.std.proofs.Common.{rules};
 ghost use Rattle.sheets.specs.Sheet.{FindingRead, FirstTunings, noted, row_count};
 
@@ -58,6 +58,8 @@ impl Reader for Rows {
 
     ghost list_noun = { codes "sheet" };
 
+    ghost some_bytes = { Prim.search rules };
+
     fn read(&self, bytes: &[u8]) -> Result<Finding, Fault> {
         Ok(match Row::from_bytes(bytes)? {
             Row::Empty => Finding::Empty,
@@ -73,6 +75,4 @@ impl Reader for Rows {
     fn list_noun() -> &'static str {
         "sheet"
     }
-
-    ghost some_bytes = { Prim.search rules };
 }

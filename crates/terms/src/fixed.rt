@@ -5,7 +5,7 @@ use crate::longest::LongestTerm;
 use crate::policy::TermPolicy;
 
 // Always the longest term.
-#[derive(Clone, Copy, PartialEq, Eq)]
+#[derive(Clone, Copy)]
 pub struct Fixed {
     longest: LongestTerm,
 }

@@ -5,7 +5,7 @@ use crate::longest::LongestTerm;
 use crate::policy::TermPolicy;
 
 // The longest term, shared among the asker and the others that hold the file.
-#[derive(Clone, Copy, PartialEq, Eq)]
+#[derive(Clone, Copy)]
 pub struct Sharing {
     longest: LongestTerm,
 }

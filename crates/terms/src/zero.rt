@@ -5,7 +5,7 @@ use crate::longest::LongestTerm;
 use crate::policy::TermPolicy;
 
 // No lease ever lives: a copy is fetched and has run out.
-#[derive(Clone, Copy, PartialEq, Eq)]
+#[derive(Clone, Copy)]
 pub struct Zero;
 
 impl TermPolicy for Zero {
