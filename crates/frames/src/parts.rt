@@ -7,7 +7,8 @@ use messages::message::Message;
 use rows::row::Row;
 
 // A message laid out flat: a field that its kind doesn't use is 0, and a row empty. Unlike a head it has a kind, where a
-// head's mark may be none's, and no gap.
+// head's mark may be none's, and no gap. The nodes and the file stand in both as
+// they do in a message.
 #[derive(Clone, Copy)]
 pub(crate) struct Parts {
     pub(crate) kind: Kind,
