@@ -1,10 +1,9 @@
 -- A pool keeps frames, and a message is told by its frame. Assumes nothing.
-use Rattle.std.specs.Prelude.{◌≡◌, ℕ, Bool, true, false, cond, ◌&&◌, List, [], ◌∷◌, ◌++◌, length, Some, None, Ok, Option, nat_lt, refl}
+use Rattle.std.specs.Prelude.{◌≡◌, ℕ, Bool, true, false, ◌&&◌, List, [], ◌∷◌, ◌++◌, Some, None, Ok, Option, refl}
 use Rattle.std.proofs.Common.{sym, ap, ◌∙◌, subst, arith}
 use mathlib.Core.List.Memᴰ
 use mathlib.Core.List.{Memᴰ}
 use Rattle.std.specs.Option.{option_map, is_none}
-use Rattle.std.specs.Cmp.Derive.{both_true}
 use Rattle.std.proofs.lemmas.Bool.Decides.{nat_tests}
 use Rattle.std.proofs.lemmas.List.Folds.{list_all-append}
 use Rattle.faults.specs.declared.fault.Fault.{Fault}
@@ -12,7 +11,7 @@ use Rattle.messages.specs.declared.message.Message.{Message}
 use Rattle.frames.specs.Frames.{frame_fault, framed}
 use Rattle.frames.proofs.RoundTrip.{read_framed, read_forth}
 use Rattle.channels.specs.Frames.{is_frame, all_frames}
-use Rattle.channels.specs.Places.{stored, NewestTaken}
+use Rattle.channels.specs.Places.{NewestTaken}
 
 pub same_frame : (m x : Message) → framed x ≡ framed m → x ≡ m
 same_frame m x e = let same : Ok m ≡ Ok x = read_forth (framed m) x (Ok m) e (read_framed m) in sym (cc)
@@ -20,13 +19,6 @@ same_frame m x e = let same : Ok m ≡ Ok x = read_forth (framed m) x (Ok m) e (
 -- frames and one more are frames exactly where the others and it are
 frames_push : (xs : List (List ℕ)) (bs : List ℕ) → all_frames (xs ++ (bs ∷ [])) ≡ (all_frames xs && (is_frame bs && true))
 frames_push xs bs = list_all-append is_frame xs (bs ∷ [])
-
-kept : (room : Bool) (xs : List (List ℕ)) (m : Message) → all_frames xs ≡ true → all_frames (cond room (xs ++ (framed m ∷ [])) xs) ≡ true
-kept true xs m all = frames_push xs (framed m) ∙ both_true all (both_true (ap is_none (read_framed m).0) refl)
-kept false xs m all = all
-
-pub frames_stored : (xs ys : List (List ℕ)) (m : Message) → ys ≡ stored xs (framed m) → all_frames xs ≡ true → all_frames ys ≡ true
-frames_stored xs ys m is all = ap all_frames is ∙ kept (nat_lt (length xs) 64) xs m all
 
 both_are_true : (a b : Bool) → (a && (b && true)) ≡ true → (a ≡ true) × (b ≡ true)
 both_are_true true true e = (refl, refl)
