@@ -1,11 +1,12 @@
-ghost use Rattle.std.specs.Prelude.{ℕ, List, IfOk};
+ghost use Rattle.std.specs.Prelude.{ℕ, List, IfOk, IfSome, OnOk};
+ghost use Rattle.std.specs.Io.KnownBytes.{IsAtEnd};
 
 use std::alloc::{AllocError, Global};
 use std::fmt::Display;
 use std::io;
-use std::io::{BufWriter, Read, Write};
+use std::io::Read;
 
-// A program that prints its answer to the bytes of its input. A trait, and no closure that `run` would take: `run` would
+// A program that prints its answer to the bytes of its input. A trait, and no closure that `answer_to` would take: it would
 // have to require that it may be called.
 pub trait Program {
     type Answer: Display + Drop;
@@ -18,13 +19,12 @@ pub trait Program {
         ensures { IfOk result (answers bytes.now) };
 }
 
-// Reads all of the input, and prints the program's answer. No clause can tell which bytes reach the system; each program
-// has an input beside it, and what it prints on that.
-pub fn run<P: Program>(rt: &(impl Input + Print + AllocGlobal)) -> io::Result<()> {
-    let mut bytes = Vec::new(rt.alloc());
-    rt.reader().read_to_end(&mut bytes)?;
-    let answer = P::answer(rt.alloc(), bytes.as_slice())?;
-    let mut out = BufWriter::new(rt.alloc(), io::writer(rt))?;
-    writeln!(out, "{answer}")?;
-    out.flush()
+// The program's answer to all that the reader gives. Where it is known what that is, the answer is to just those bytes.
+pub fn answer_to<P: Program, R: Read>(alloc: Global, input: &mut R) -> io::Result<P::Answer>
+    ensures answers { IfOk result (λ answer. IfSome (R.remaining input.old) (λ bytes. P.answers bytes answer)) }
+    ensures to_the_end { OnOk result (IsAtEnd (R.remaining input.new)) }
+{
+    let mut bytes = Vec::new(alloc);
+    input.read_to_end(&mut bytes)?;
+    Ok(P::answer(alloc, bytes.as_slice())?)
 }
