@@ -27,9 +27,9 @@ body_words (Approve version) = codes "version " ++ decimal version
 body_words (Write number row) = codes "number " ++ (decimal number ++ (codes ", row: " ++ row_words row))
 body_words (Done number) = codes "number " ++ decimal number
 
+-- between which nodes a message goes, and about which file
+abbrev pub way_words : Message → List ℕ
+way_words m = codes "from " ++ (decimal m.from ++ (codes " to " ++ (decimal m.to ++ (codes ", file " ++ decimal m.file))))
+
 abbrev pub message_words : Message → List ℕ
-message_words m =
-    kind_word (kind_of m.body) ++
-    (codes " from " ++ (decimal m.from ++
-    (codes " to " ++ (decimal m.to ++
-    (codes ", file " ++ (decimal m.file ++ (codes ", " ++ body_words m.body)))))))
+message_words m = kind_word (kind_of m.body) ++ (codes " " ++ (way_words m ++ (codes ", " ++ body_words m.body)))

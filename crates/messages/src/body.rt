@@ -1,7 +1,7 @@
 use rows::row::Row;
 
 // What a message says, by its kind.
-#[derive(Clone, Copy, Debug, PartialEq, Eq)]
+#[derive(Clone, Copy, Debug)]
 pub enum Body {
     // a station asks for a lease
     Ask {

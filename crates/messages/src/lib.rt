@@ -5,6 +5,7 @@
 #![tactic(auto)]
 
 pub mod body;
+pub mod equality;
 pub mod kind;
 pub mod limits;
 pub mod marks;

@@ -75,7 +75,9 @@ impl Kind {
     pub fn form(self) -> Form
         ensures { result ≡ form self }
     {
-        FORMS[self as usize - 1]
+        // by reference, since the constant by value would be built anew at each call
+        let forms = &FORMS;
+        forms[self as usize - 1]
     }
 }
 

@@ -4,7 +4,7 @@ ghost use Rattle.messages.specs.Bounds.{lawful_body};
 use crate::body::Body;
 
 // A message from one node to another about a file.
-#[derive(Clone, Copy, Debug, PartialEq, Eq)]
+#[derive(Clone, Copy, Debug)]
 pub struct Message {
     pub from: u8,
     pub to: u8,

@@ -1,6 +1,6 @@
 // A message in words: its kind, its way, its file and what it says.
 ghost use Rattle.std.specs.Prelude.{Some};
-ghost use Rattle.messages.specs.Words.{kind_word, body_words, message_words};
+ghost use Rattle.messages.specs.Words.{kind_word, way_words, body_words, message_words};
 
 use crate::body::Body;
 use crate::kind::Kind;
@@ -46,15 +46,28 @@ impl fmt::Display for Body {
     }
 }
 
+// Between which nodes a message goes, and about which file.
+#[derive(Clone, Copy)]
+pub struct Way(pub Message);
+
+impl fmt::Display for Way {
+    ghost output = { λ way. Some (way_words way.0) };
+
+    fn fmt<W: fmt::Write>(&self, f: &mut fmt::Formatter<W>) -> fmt::Result {
+        let from = self.0.from;
+        let to = self.0.to;
+        let file = self.0.file;
+        write!(f, "from {from} to {to}, file {file}")
+    }
+}
+
 impl fmt::Display for Message {
     ghost output = { λ message. Some (message_words message) };
 
     fn fmt<W: fmt::Write>(&self, f: &mut fmt::Formatter<W>) -> fmt::Result {
         let kind = self.kind();
-        let from = self.from;
-        let to = self.to;
-        let file = self.file;
+        let way = Way(*self);
         let body = self.body;
-        write!(f, "{kind} from {from} to {to}, file {file}, {body}")
+        write!(f, "{kind} {way}, {body}")
     }
 }
