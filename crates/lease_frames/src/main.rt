@@ -10,6 +10,6 @@ use std::io::{BufWriter, Write};
 fn main(rt: HostRuntime) -> io::Result<()> {
     let listing = answer_to::<Frames, _>(rt.alloc(), &mut rt.stdin())?;
     let mut out = BufWriter::new(rt.alloc(), rt.stdout())?;
-    writeln!(out, "{listing}")?;
+    write!(out, "{listing}")?;
     out.flush()
 }

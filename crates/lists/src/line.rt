@@ -3,16 +3,20 @@ ghost use Rattle.lists.specs.Words.{line_words};
 use crate::reader::Reader;
 use faults::fault::Fault;
 use std::fmt;
+use std::fmt::Display;
+use std::marker::PhantomData;
 
-// One record of a list; the first has the number 1.
-#[derive(Drop)]
-pub struct Line<R: Reader> {
+// One record of a list; the first has the number 1. The record's type stands beside its reader's, since a type that holds
+// an associated type can't be `Copy`.
+#[derive_where(Clone, Copy; T)]
+pub struct Line<R, T> {
     pub number: usize,
-    pub found: Result<R::Record, Fault>,
+    pub found: Result<T, Fault>,
+    pub reader: PhantomData<R>,
 }
 
-impl<R: Reader> fmt::Display for Line<R> {
-    ghost output = { line_words R.noun R.Record.output };
+impl<R: Reader<Record = T>, T: Display> fmt::Display for Line<R, T> {
+    ghost output = { line_words R.noun T.output };
 
     fn fmt<W: fmt::Write>(&self, f: &mut fmt::Formatter<W>) -> fmt::Result {
         let noun = R::noun();

@@ -5,16 +5,21 @@ use crate::line::Line;
 use crate::listing::Listing;
 use crate::reader::Reader;
 use std::alloc::{AllocError, Global};
+use std::marker::PhantomData;
 
 // How many of the records were refused.
-fn faults_in<R: Reader>(lines: &[Line<R>]) -> usize
+fn faults_in<R: Reader>(lines: &[Line<R, R::Record>]) -> usize
     ensures { result ≡ count_by refused lines.now }
 {
     lines.iter().filter(|line| line.found.is_err()).count()
 }
 
 // A line for each whole record.
-fn lines_of<R: Reader>(alloc: Global, reader: &R, bytes: &[u8]) -> Result<Vec<Line<R>>, AllocError>
+fn lines_of<R: Reader>(
+    alloc: Global,
+    reader: &R,
+    bytes: &[u8],
+) -> Result<Vec<Line<R, R::Record>>, AllocError>
     ensures { IfOk result (λ lines. LinesAre (R.reads reader.now) R.BYTES bytes.now (record_count R.BYTES bytes.now) lines.items) }
 {
     let records = bytes.chunks_exact(R::BYTES);
@@ -23,6 +28,7 @@ fn lines_of<R: Reader>(alloc: Global, reader: &R, bytes: &[u8]) -> Result<Vec<Li
         lines.push_reserved(Line {
             number: index + 1,
             found: reader.read(record),
+            reader: PhantomData,
         });
     }
     Ok(lines)

@@ -10,6 +10,6 @@ use std::io::{BufWriter, Write};
 fn main(rt: HostRuntime) -> io::Result<()> {
     let report = answer_to::<Report, _>(rt.alloc(), &mut rt.stdin())?;
     let mut out = BufWriter::new(rt.alloc(), rt.stdout())?;
-    writeln!(out, "{report}")?;
+    write!(out, "{report}")?;
     out.flush()
 }

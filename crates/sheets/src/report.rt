@@ -1,5 +1,5 @@
 use crate::reading::Rows;
-use lists::listing::Listing;
+use lists::listing::{Listing, OpenEnded};
 use std::fmt;
 
 // A checked sheet.
@@ -12,8 +12,8 @@ pub struct Report {
 
 impl fmt::Display for Report {
     fn fmt<W: fmt::Write>(&self, f: &mut fmt::Formatter<W>) -> fmt::Result {
-        let rows = &self.rows;
+        let rows = OpenEnded(&self.rows);
         let untuned = self.untuned;
-        write!(f, "{rows}, passes without a tuning row {untuned}")
+        writeln!(f, "{rows}, passes without a tuning row {untuned}")
     }
 }

@@ -10,7 +10,7 @@ use lists::program::Program;
 use std::alloc::{AllocError, Global};
 
 // How many of the rows are pass rows without a tuning row.
-fn untuned_in(lines: &[Line<Rows>]) -> usize
+fn untuned_in(lines: &[Line<Rows, Finding>]) -> usize
     ensures { result ≡ count_by untuned lines.now }
 {
     lines

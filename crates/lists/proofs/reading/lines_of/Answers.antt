@@ -1,4 +1,4 @@
-use Rattle.std.proofs.Common.{rules, ◌∙◌, arith}
+use Rattle.std.proofs.Common.{rules, ◌∙◌, refl, arith}
 use Rattle.lists.proofs.Chunks.{front_is_next, after_more, all_cut}
 use Rattle.lists.proofs.Lines.{lines_more}
 use Rattle.lists.proofs.reading.lines_of.Goals as goal
@@ -14,7 +14,7 @@ loop-index-preserved g c =
       size_is = search rules;
       cut = rw steps.2 (after_more _ _ _ _ c.in-Some.record.now _ so_far.cut steps.0.1.0 long);
       room = search rules;
-      lines_are = rw steps.2 (lines_more _ _ _ _ _ _ _ c.read.result so_far.lines_are (front_is_next _ _ _ _ c.in-Some.record.now _ so_far.cut steps.0.1.0 long) c.read.ensures (rw steps.1 at c.push_reserved.ensures.items));
+      lines_are = rw steps.2 (lines_more _ _ _ _ _ _ _ _ so_far.lines_are (front_is_next _ _ _ _ c.in-Some.record.now _ so_far.cut steps.0.1.0 long) refl c.read.ensures (rw steps.1 at c.push_reserved.ensures.items));
     }
 
 pub returns : goal.returns
