@@ -1,1 +1,2 @@
+pub mod Drift
 pub mod Course

@@ -1,0 +1,5 @@
+-- The name of a longest term for clauses, since an alias has none there. Assumes nothing.
+use Rattle.ticks.specs.declared.UpTo.{UpTo}
+
+abbrev pub LongestTerm : Type 0
+LongestTerm = UpTo 60000
