@@ -1,5 +1,5 @@
 -- A pool keeps frames, and a message is told by its frame. Assumes nothing.
-use Rattle.std.specs.Prelude.{◌≡◌, ℕ, Bool, true, false, ◌&&◌, List, [], ◌∷◌, ◌++◌, Some, None, Ok, Option, refl}
+use Rattle.std.specs.Prelude.{◌≡◌, ℕ, Bool, true, false, cond, ◌&&◌, List, [], ◌∷◌, ◌++◌, length, Some, None, Ok, Option, nat_lt, refl}
 use Rattle.std.proofs.Common.{sym, ap, ◌∙◌, subst, arith}
 use mathlib.Core.List.Memᴰ
 use mathlib.Core.List.{Memᴰ}
@@ -11,14 +11,26 @@ use Rattle.messages.specs.declared.message.Message.{Message}
 use Rattle.frames.specs.Frames.{frame_fault, framed}
 use Rattle.frames.proofs.RoundTrip.{read_framed, read_forth}
 use Rattle.channels.specs.Frames.{is_frame, all_frames}
-use Rattle.channels.specs.Places.{NewestTaken}
+use Rattle.channels.specs.Places.{stored, NewestTaken}
 
 pub same_frame : (m x : Message) → framed x ≡ framed m → x ≡ m
 same_frame m x e = let same : Ok m ≡ Ok x = read_forth (framed m) x (Ok m) e (read_framed m) in sym (cc)
 
 -- frames and one more are frames exactly where the others and it are
-frames_push : (xs : List (List ℕ)) (bs : List ℕ) → all_frames (xs ++ (bs ∷ [])) ≡ (all_frames xs && (is_frame bs && true))
-frames_push xs bs = list_all-append is_frame xs (bs ∷ [])
+frames_and : (xs : List (List ℕ)) (bs : List ℕ) → all_frames (xs ++ (bs ∷ [])) ≡ (all_frames xs && (is_frame bs && true))
+frames_and xs bs = list_all-append is_frame xs (bs ∷ [])
+
+-- what is written of a message is a frame
+pub frames_push : (xs : List (List ℕ)) (m : Message) → all_frames xs ≡ true → all_frames (xs ++ (framed m ∷ [])) ≡ true
+frames_push xs m all = rw (frames_and xs (framed m)) (rw all (rw (read_framed m).0 refl))
+
+stored_or_lost : (room : Bool) (xs ys : List (List ℕ)) (m : Message) → ys ≡ cond room (xs ++ (framed m ∷ [])) xs → all_frames xs ≡ true → all_frames ys ≡ true
+stored_or_lost true xs ys m kept all = rw kept (frames_push xs m all)
+stored_or_lost false xs ys m kept all = rw kept all
+
+-- so a pool's frames and one that is sent are frames, stored or lost
+pub frames_stored : (xs ys : List (List ℕ)) (bs : List ℕ) (m : Message) → ys ≡ stored xs bs → bs ≡ framed m → all_frames xs ≡ true → all_frames ys ≡ true
+frames_stored xs ys bs m kept written = stored_or_lost (nat_lt (length xs) 64) xs ys m (kept ∙ ap (stored xs) written)
 
 both_are_true : (a b : Bool) → (a && (b && true)) ≡ true → (a ≡ true) × (b ≡ true)
 both_are_true true true e = (refl, refl)
@@ -32,7 +44,7 @@ no_fault (Some fault) e = grind (arith, nat_tests)
 -- of frames the newest is one, and so are those that are left
 pub newest_frame : (xs ys : List (List ℕ)) (bs : List ℕ) → NewestTaken xs (Some bs) ys → all_frames xs ≡ true → (all_frames ys ≡ true) × (frame_fault bs ≡ None)
 newest_frame xs ys bs taken all =
-    let parts = both_are_true (all_frames ys) (is_frame bs) (sym (frames_push ys bs) ∙ sym (ap all_frames taken) ∙ all) in
+    let parts = both_are_true (all_frames ys) (is_frame bs) (sym (frames_and ys bs) ∙ sym (ap all_frames taken) ∙ all) in
     (parts.0, no_fault (frame_fault bs) parts.1)
 
 pub frames_left : (xs ys : List (List ℕ)) (o : Option (List ℕ)) → NewestTaken xs o ys → all_frames xs ≡ true → all_frames ys ≡ true
