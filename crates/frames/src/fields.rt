@@ -10,7 +10,7 @@ use messages::marks::Form;
 fn is_zero(row: &[u8; 16]) -> bool
     ensures { result ≡ list_all (λ b. b == 0) row.now }
 {
-    row.iter().all(|&byte| byte == 0)
+    *row == [0; 16]
 }
 
 // The fields in the order of their bytes, each told by its first in the frame. A row that the form uses has been judged

@@ -14,8 +14,6 @@ pub(crate) fn lay_out(parts: Parts) -> [u8; 32]
     let head = [
         m0, m1, parts.from, parts.to, parts.file, 0, n0, n1, n2, n3, v0, v1, v2, v3, t0, t1,
     ];
-    let mut frame = [0; 32];
-    frame[..16].copy_from_slice(&head);
-    frame[16..].copy_from_slice(&parts.row.to_bytes());
-    frame
+    let halves = [head, parts.row.to_bytes()];
+    *halves.as_flattened().as_array().unwrap()
 }
