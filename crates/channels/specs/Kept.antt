@@ -28,7 +28,7 @@ stored_or_lost : (room : Bool) (xs ys : List (List ℕ)) (m : Message) → ys �
 stored_or_lost true xs ys m kept all = rw kept (frames_push xs m all)
 stored_or_lost false xs ys m kept all = rw kept all
 
--- so a pool's frames and one that is sent are frames, stored or lost
+-- so a pool's frames and one that is sent are frames, stored or lost; the check finds this alone at a send, and here it can be cited
 pub frames_stored : (xs ys : List (List ℕ)) (bs : List ℕ) (m : Message) → ys ≡ stored xs bs → bs ≡ framed m → all_frames xs ≡ true → all_frames ys ≡ true
 frames_stored xs ys bs m kept written = stored_or_lost (nat_lt (length xs) 64) xs ys m (kept ∙ ap (stored xs) written)
 

@@ -10,6 +10,7 @@ use messages::marks::Form;
 fn is_zero(row: &[u8; 16]) -> bool
     ensures { result ≡ list_all (λ b. b == 0) row.now }
 {
+    // one comparison, where a walk over the bytes is a loop
     *row == [0; 16]
 }
 

@@ -12,6 +12,7 @@ use std::marker::PhantomData;
 pub struct Line<R, T> {
     pub number: usize,
     pub found: Result<T, Fault>,
+    // whose record it is, since the reader has the word for one
     pub reader: PhantomData<R>,
 }
 

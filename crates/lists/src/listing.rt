@@ -38,6 +38,7 @@ impl<'a, R: Reader> fmt::Display for OpenEnded<'a, R> {
     }
 }
 
+// The same, with the end of its last line.
 impl<R: Reader> fmt::Display for Listing<R> {
     fn fmt<W: fmt::Write>(&self, f: &mut fmt::Formatter<W>) -> fmt::Result {
         let listing = OpenEnded(self);

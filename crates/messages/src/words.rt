@@ -1,4 +1,4 @@
-// A message in words: its kind, its way, its file and what it says.
+// A message in words: its kind, its way with its file, and what it says.
 ghost use Rattle.std.specs.Prelude.{Some};
 ghost use Rattle.messages.specs.Words.{kind_word, way_words, body_words, message_words};
 
