@@ -1,4 +1,4 @@
--- The name of a drift bound for clauses, since an alias has none there. Assumes nothing.
+-- The name of a drift bound for the clauses of callers, since an alias has none there. Assumes nothing.
 use Rattle.ticks.specs.declared.UpTo.{UpTo}
 
 abbrev pub DriftBound : Type 0

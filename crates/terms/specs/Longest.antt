@@ -1,4 +1,4 @@
--- The name of a longest term for clauses, since an alias has none there. Assumes nothing.
+-- The name of a longest term for the clauses of callers, since an alias has none there. Assumes nothing.
 use Rattle.ticks.specs.declared.UpTo.{UpTo}
 
 abbrev pub LongestTerm : Type 0
