@@ -1,3 +1,5 @@
+ghost use Rattle.sheets.specs.Words.{report_words};
+
 use crate::reading::Rows;
 use lists::listing::{Listing, OpenEnded};
 use std::fmt;
@@ -11,6 +13,8 @@ pub struct Report {
 }
 
 impl fmt::Display for Report {
+    ghost output = { report_words };
+
     fn fmt<W: fmt::Write>(&self, f: &mut fmt::Formatter<W>) -> fmt::Result {
         let rows = OpenEnded(&self.rows);
         let untuned = self.untuned;
